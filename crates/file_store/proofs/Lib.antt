@@ -13,3 +13,4 @@ pub mod Switches
 pub mod Writes
 pub mod Hints
 pub mod Reopening
+pub mod Sources

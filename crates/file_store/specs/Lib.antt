@@ -10,5 +10,6 @@ pub mod Outlined
 pub mod OutlinedLaws
 pub mod Packing
 pub mod Preparing
+pub mod SourcesLaws
 pub mod Staging
 pub mod Written

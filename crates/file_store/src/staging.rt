@@ -1,6 +1,6 @@
 //! An index, and beside it the places of a voted transaction, with all the room that its finish needs.
 
-ghost use Rattle.std.specs.Prelude.{◌≡◌, ℕ, ◌-◌, ◌^◌, ◌<◌, ◌≤◌, None, Some, map, nat_eq, All, OnOk, OnErr};
+ghost use Rattle.std.specs.Prelude.{◌≡◌, ℕ, ◌-◌, ◌^◌, ◌<◌, ◌≤◌, None, Some, true, map, nat_eq, All, OnOk, OnErr};
 ghost use Rattle.std.specs.List.{IsDistinct};
 ghost use Rattle.std.specs.Option.{ForSome, option_copied};
 ghost use Rattle.fs_index.specs.Places.{HasRoomFor, IsRising, places_in};
@@ -74,6 +74,13 @@ impl StagedIndex {
         ensures { option_copied result ≡ self.now.staged }
     {
         self.staged.as_ref()
+    }
+
+    /// Whether nothing is staged.
+    pub(crate) fn is_free(&self) -> bool
+        ensures { result ≡ true → self.now.staged ≡ None }
+    {
+        self.staged.is_none()
     }
 
     /// The index, without what is staged. The number of each of its transactions has one after it.

@@ -1,6 +1,6 @@
 //! The store over a volume.
 
-ghost use Rattle.std.specs.Prelude.{◌≡◌, ◌<◌, ◌++◌, ◌∷◌, [], None, Some, false, length, option_map, IfErr, IfOk, IsSome, OnErr, OnOk};
+ghost use Rattle.std.specs.Prelude.{◌≡◌, ◌<◌, ◌++◌, ◌∷◌, [], None, Some, false, length, option_map, take, IfErr, IfOk, IsSome, OnErr, OnOk};
 ghost use Rattle.std.specs.Option.{ForSome};
 ghost use Rattle.zb_volume.specs.declared.areas.Area.TheVariants.{Main, Side, Hint};
 ghost use Rattle.zb_volume.specs.Disk.{seen, IsSettled};
@@ -24,8 +24,11 @@ ghost use Rattle.file_store.specs.Written.{IsAbortWritten, IsCopyInFull, IsFinis
 ghost use Rattle.file_store.specs.Written.{IsListPacked, LeavesList, LeavesOneOfTwo};
 ghost use Rattle.file_store.specs.Written.{SwitchWrites, VoteWrites};
 ghost use Rattle.file_store.specs.Outlined.{IsOutlinedIn};
+ghost use Rattle.file_store.specs.SourcesLaws.{sources_once};
+ghost use Rattle.fs_reading.specs.Known.{AreSourcesOf};
 ghost use Rattle.file_store.specs.OutlinedLaws.{outlined_once};
 
+use crate::looking::{found_before, transaction_with};
 use crate::opening::{keep as keep_opened, open};
 use crate::outlined::{change_in, outline_of};
 use crate::packing::pack_file;
@@ -37,8 +40,8 @@ use fs_append as append;
 use fs_index::last_of;
 use fs_index_file::write_hint;
 use fs_reading::{
-    Outline, first_tid_after, read_before, read_change, read_first_after, read_history_at,
-    read_transaction_with, read_undo_log_at, read_undo_log_before,
+    KnownSources, Outline, first_tid_after, read_change, read_first_after, read_history_at,
+    read_undo_log_at, read_undo_log_before,
 };
 use fs_recovery::{Numbers, OpenError};
 use pack_copy::{CopyState, begin, copy_turn};
@@ -66,6 +69,8 @@ pub struct FileStore<V: Volume> {
     /// Where the changes stand of the transaction that was asked for one last, until a call changes
     /// the volume.
     pub(crate) outline: Option<Outline>,
+    /// Where the contents stand of a few data records before the index's end.
+    pub(crate) sources: KnownSources,
     /// Whether a call is under way that changes the volume, or one has failed.
     pub(crate) broken: bool,
     ghost room: { ForSome index.staged (λ s. HasRoomForTally numbers (length s.records)) },
@@ -78,6 +83,8 @@ pub struct FileStore<V: Volume> {
         → ForSome copy (λ c. IsCopyKept (seen (V.state volume).log Side) c) } by { copied_once V.told (broken ≡ false) (seen (V.state volume).log Side) copy },
     ghost outlined: { V.told → broken ≡ false
         → ForSome outline (λ o. IsOutlinedIn (seen (V.state volume).log Main) o) } by { outlined_once V.told (broken ≡ false) (seen (V.state volume).log Main) outline },
+    ghost known: { V.told → broken ≡ false
+        → AreSourcesOf (take index.end (seen (V.state volume).log Main)) sources } by { sources_once V.told (broken ≡ false) (take index.end (seen (V.state volume).log Main)) sources },
     ghost hint: { V.told → IsHinted (V.state volume).log broken index.end } by { hinted_once V.told (V.state volume).log broken index.end },
 }
 
@@ -124,6 +131,7 @@ impl<V: Volume + Drop> FileStore<V> {
                     numbers,
                     copy: None,
                     outline: None,
+                    sources: KnownSources::new(alloc),
                     broken: false,
                 };
                 Ok((store, cut))
@@ -194,6 +202,7 @@ impl<V: Volume + Drop> FileStore<V> {
             numbers: _,
             copy: _,
             outline: _,
+            sources: _,
             broken: _,
         } = self;
         volume
@@ -265,12 +274,19 @@ impl<V: Volume + Drop> Store for FileStore<V> {
 
     fn load_before(&mut self, alloc: Global, oid: Oid, front: Tid) -> Result<Found, StoreError> {
         let end = self.index.end();
-        let found = read_before(alloc, &mut self.volume, self.index.places(oid), end, front)?;
+        let whole = self.index.is_free();
+        let volume = &mut self.volume;
+        let places = self.index.places(oid);
+        let found = found_before(alloc, volume, &mut self.sources, whole, places, end, front)?;
         Ok(found)
     }
 
     fn transaction(&mut self, alloc: Global, tid: Tid) -> Result<Option<Transaction>, StoreError> {
-        let found = read_transaction_with(alloc, &mut self.volume, self.index.starts(), tid)?;
+        let end = self.index.end();
+        let whole = self.index.is_free();
+        let volume = &mut self.volume;
+        let starts = self.index.starts();
+        let found = transaction_with(alloc, volume, &mut self.sources, whole, starts, end, tid)?;
         Ok(found)
     }
 
@@ -512,6 +528,7 @@ impl<V: Volume + Drop> Store for FileStore<V> {
             return Err(StoreError::Memory);
         };
         self.outline = None;
+        self.sources.forget();
         self.broken = true;
         let volume = &mut self.volume;
         match pack_file(alloc, volume, &self.index, &self.numbers, copy, keep) {

@@ -8,3 +8,5 @@ pub mod Starts
 pub mod Wholes
 pub mod Fronts
 pub mod Forming
+pub mod Longer
+pub mod Showing

@@ -2,10 +2,13 @@ pub mod Cases
 pub mod ChangesStand
 pub mod Contents
 pub mod Histories
+pub mod Known
+pub mod KnownLaws
 pub mod Main
 pub mod Merged
 pub mod Reads
 pub mod RecordsStand
+pub mod Showing
 pub mod Sources
 pub mod Standing
 pub mod StoreErrors

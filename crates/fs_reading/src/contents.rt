@@ -6,6 +6,7 @@ ghost use Rattle.fs_records.specs.Blocks.{Reached, Begins, is_known, content_at}
 ghost use Rattle.zb_volume.specs.Disk.{main_bytes};
 ghost use Rattle.fs_reading.specs.Standing.{data_head_at, IsContent};
 ghost use Rattle.fs_reading.specs.Formed.{HasBytes};
+ghost use Rattle.fs_reading.specs.Known.{AreSourcesOf};
 ghost use Rattle.fs_reading.specs.Sources.{IsSource, IsKnownPlace};
 ghost use Rattle.fs_reading.specs.Outlines.{HasLength, StandsWithin, outlined_content};
 ghost use Rattle.zb_volume.specs.States.{OnlyReads};
@@ -13,6 +14,7 @@ ghost use Rattle.fs_reading.specs.Reads.{OnlyReadsMain};
 
 use crate::errors::ReadError;
 use crate::front::{FRONT, content_in, fill_front, header_in};
+use crate::known::KnownSources;
 use crate::outline::Source;
 use crate::pieces::{back_pointer_at, bytes_at, data_header_at};
 use fs_records::{DATA_HEADER_LENGTH, DataHeader};
@@ -21,9 +23,11 @@ use zb_model::Content;
 use zb_volume::{StoreFault, Volume};
 
 /// Where the content of the data record with this header at a place stands, or `None` where there
-/// is none. A back pointer that doesn't lead to an earlier place is none.
-pub(crate) fn source_of<V: Volume>(
+/// is none. A back pointer that doesn't lead to an earlier place is none. Back pointers are followed up
+/// to a data record of which it is known.
+fn follow<V: Volume>(
     volume: &mut V,
+    known: &KnownSources,
     at: u64,
     header: &DataHeader,
 ) -> Result<Option<Source>, StoreFault>
@@ -31,6 +35,7 @@ pub(crate) fn source_of<V: Volume>(
     requires header { V.told → header.now ≡ data_head_at (main_bytes (V.state volume.old).log) at }
     requires some { V.told → (content : Content)
         × IsContent (main_bytes (V.state volume.old).log) content at }
+    requires known { V.told → AreSourcesOf (main_bytes (V.state volume.old).log) known.now }
     ensures value { V.told → (content : Content)
         → IsContent (main_bytes (V.state volume.old).log) content at
         → IfOk result (λ source. IsSource (main_bytes (V.state volume.old).log) content source) }
@@ -40,6 +45,9 @@ pub(crate) fn source_of<V: Volume>(
     let mut place = at;
     let mut length = header.length;
     while length == 0 {
+        if let Some(found) = known.get(place) {
+            return Ok(found.source);
+        }
         let back = back_pointer_at(volume, place)?;
         if back == 0 {
             return Ok(None);
@@ -51,6 +59,34 @@ pub(crate) fn source_of<V: Volume>(
         place = back;
     }
     Ok(Some(Source { at: place, length }))
+}
+
+/// Where the content of the data record with this header at a place stands, or `None` where there
+/// is none. A back pointer that doesn't lead to an earlier place is none. What is found by back
+/// pointers is known from then on.
+pub(crate) fn source_of<V: Volume>(
+    volume: &mut V,
+    known: &mut KnownSources,
+    at: u64,
+    header: &DataHeader,
+) -> Result<Option<Source>, StoreFault>
+    requires short { V.told → length (main_bytes (V.state volume.old).log) < 2 ^ 64 }
+    requires header { V.told → header.now ≡ data_head_at (main_bytes (V.state volume.old).log) at }
+    requires some { V.told → (content : Content)
+        × IsContent (main_bytes (V.state volume.old).log) content at }
+    requires known { V.told → AreSourcesOf (main_bytes (V.state volume.old).log) known.old }
+    ensures value { V.told → (content : Content)
+        → IsContent (main_bytes (V.state volume.old).log) content at
+        → IfOk result (λ source. IsSource (main_bytes (V.state volume.old).log) content source) }
+    ensures filled { IfOk result (λ source. HasLength source) }
+    ensures known { V.told → AreSourcesOf (main_bytes (V.state volume.new).log) known.new }
+    ensures read { OnlyReads (V.state volume.old) (V.state volume.new) result }
+{
+    let source = follow(volume, known, at, header)?;
+    if header.length == 0 {
+        known.enter(at, source);
+    }
+    Ok(source)
 }
 
 /// The content whose bytes stand there, or that the object isn't there.
@@ -77,6 +113,7 @@ pub(crate) fn content_from<V: Volume>(
 pub(crate) fn content_of<V: Volume>(
     alloc: Global,
     volume: &mut V,
+    known: &mut KnownSources,
     at: u64,
     header: &DataHeader,
 ) -> Result<Content, ReadError>
@@ -84,29 +121,38 @@ pub(crate) fn content_of<V: Volume>(
     requires header { V.told → header.now ≡ data_head_at (main_bytes (V.state volume.old).log) at }
     requires some { V.told → (content : Content)
         × IsContent (main_bytes (V.state volume.old).log) content at }
+    requires known { V.told → AreSourcesOf (main_bytes (V.state volume.old).log) known.old }
     ensures value { V.told → (content : Content)
         → IsContent (main_bytes (V.state volume.old).log) content at
         → IfOk result (λ read. read ≡ content) }
     ensures filled { IfOk result (λ read. HasBytes read) }
+    ensures known { V.told → AreSourcesOf (main_bytes (V.state volume.new).log) known.new }
     ensures read { OnlyReadsMain (V.state volume.old) (V.state volume.new) result }
 {
-    let source = source_of(volume, at, header)?;
+    let source = source_of(volume, known, at, header)?;
     content_from(alloc, volume, source)
 }
 
 /// The content of the data record at a place where one of an object was read: its bytes, or those
 /// of the earlier record that its back pointer leads to. It is `ReadFault` only where a read failed,
 /// and else `Memory`. The volume is as it was.
-fn read_content<V: Volume>(alloc: Global, volume: &mut V, at: u64) -> Result<Content, ReadError>
-    requires { V.told → IsKnownPlace (main_bytes (V.state volume.old).log) at }
+fn read_content<V: Volume>(
+    alloc: Global,
+    volume: &mut V,
+    known: &mut KnownSources,
+    at: u64,
+) -> Result<Content, ReadError>
+    requires place { V.told → IsKnownPlace (main_bytes (V.state volume.old).log) at }
+    requires known { V.told → AreSourcesOf (main_bytes (V.state volume.old).log) known.old }
     ensures content { V.told → (reached : Reached) (oid : ℕ)
         → Begins (main_bytes (V.state volume.old).log) reached → is_known reached.known oid at
         ≡ true
         → IfOk result (λ content. content ≡ content_at reached.known oid at) }
+    ensures known { V.told → AreSourcesOf (main_bytes (V.state volume.new).log) known.new }
     ensures read { OnlyReadsMain (V.state volume.old) (V.state volume.new) result }
 {
     let header = data_header_at(volume, at)?;
-    content_of(alloc, volume, at, &header)
+    content_of(alloc, volume, known, at, &header)
 }
 
 /// The content of the data record at a place, as `read_content` gives it, where the bytes of the file
@@ -115,20 +161,23 @@ fn read_content<V: Volume>(alloc: Global, volume: &mut V, at: u64) -> Result<Con
 pub(crate) fn read_content_before<V: Volume>(
     alloc: Global,
     volume: &mut V,
+    known: &mut KnownSources,
     at: u64,
     end: u64,
 ) -> Result<Content, ReadError>
-    requires known { V.told → IsKnownPlace (main_bytes (V.state volume.old).log) at }
+    requires place { V.told → IsKnownPlace (main_bytes (V.state volume.old).log) at }
     requires end { V.told → end ≤ length (main_bytes (V.state volume.old).log) }
+    requires known { V.told → AreSourcesOf (main_bytes (V.state volume.old).log) known.old }
     ensures content { V.told → (reached : Reached) (oid : ℕ)
         → Begins (main_bytes (V.state volume.old).log) reached → is_known reached.known oid at
         ≡ true
         → IfOk result (λ content. content ≡ content_at reached.known oid at) }
+    ensures known { V.told → AreSourcesOf (main_bytes (V.state volume.new).log) known.new }
     ensures read { OnlyReadsMain (V.state volume.old) (V.state volume.new) result }
 {
     let room = end.saturating_sub(at);
     if room < DATA_HEADER_LENGTH as u64 {
-        return read_content(alloc, volume, at);
+        return read_content(alloc, volume, known, at);
     }
     let mut front = [0; FRONT];
     let held = fill_front(volume, at, room, &mut front)?;
@@ -137,5 +186,5 @@ pub(crate) fn read_content_before<V: Volume>(
         let content = content_in(alloc, &front, header.length as usize)?;
         return Ok(content);
     }
-    content_of(alloc, volume, at, &header)
+    content_of(alloc, volume, known, at, &header)
 }

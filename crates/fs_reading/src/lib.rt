@@ -4,14 +4,17 @@
 //! transaction with a tid, and the first one above a tid.
 #![tactic(auto)]
 
+mod backwards;
 mod contents;
 mod errors;
 mod front;
 mod history;
+mod known;
 mod lookups;
 mod noted;
 mod outline;
 mod outlining;
+mod piece;
 mod pieces;
 mod sizes;
 mod transaction;
@@ -19,10 +22,11 @@ mod undo_log;
 
 pub use errors::ReadError;
 pub use history::read_history_at;
+pub use known::KnownSources;
 pub use lookups::{
     first_tid_after, read_before, read_first_after, read_outline_with, read_transaction_with,
 };
-pub use outline::{Outline, OutlinedChange, Source};
+pub use outline::{KnownSource, Outline, OutlinedChange, Source};
 pub use outlining::read_outline_at;
 pub use transaction::read_change;
 pub use undo_log::{read_undo_log_at, read_undo_log_before};

@@ -7,6 +7,7 @@ ghost use Rattle.fs_records.specs.Blocks.{Reached, Begins};
 ghost use Rattle.fs_index.specs.Places.{IsRising};
 ghost use Rattle.fs_records.specs.Indexed.{places_of};
 ghost use Rattle.fs_index.specs.Found.{first_from};
+ghost use Rattle.fs_reading.specs.Known.{AreSourcesOf};
 ghost use Rattle.fs_reading.specs.Main.{ArePlaces, AreStarts};
 ghost use Rattle.fs_reading.specs.Outlines.{AllStandWithin, outlined_transaction};
 ghost use Rattle.zb_volume.specs.Disk.{main_bytes};
@@ -14,6 +15,7 @@ ghost use Rattle.fs_reading.specs.Reads.{OnlyReadsMain};
 
 use crate::contents::read_content_before;
 use crate::errors::ReadError;
+use crate::known::KnownSources;
 use crate::outline::Outline;
 use crate::outlining::read_outline_at;
 use crate::transaction::read_transaction_at;
@@ -45,11 +47,14 @@ fn found_with(content: Content, serial: Tid, end: Option<Tid>) -> Found
 /// An object's last revision below a front, with the serial of its next one, by the places of the
 /// object's records in what was read of the file, in the order in which they stand. It reads one
 /// content, and nothing that stands behind `end`, at which Main has its end or goes on; a record of
-/// at most 4,096 bytes takes one read of the volume. Memory is that of the content. It is `ReadFault`
-/// only where a read failed, and else `Memory`. The volume is as it was.
+/// at most 4,096 bytes takes one read of the volume. Where the content is that of an earlier record, back
+/// pointers are followed up to a record that is known, and where it stands is known from then on.
+/// Memory is that of the content and of what is known. It is `ReadFault` only where a read failed, and
+/// else `Memory`. The volume is as it was.
 pub fn read_before<V: Volume>(
     alloc: Global,
     volume: &mut V,
+    known: &mut KnownSources,
     places: &[Place],
     end: u64,
     front: Tid,
@@ -57,37 +62,43 @@ pub fn read_before<V: Volume>(
     requires places { V.told → ArePlaces (main_bytes (V.state volume.old).log) places.now }
     requires rising { IsRising places.now }
     requires end { V.told → end ≤ length (main_bytes (V.state volume.old).log) }
+    requires known { V.told → AreSourcesOf (main_bytes (V.state volume.old).log) known.old }
     ensures found { V.told → (reached : Reached) (oid : ℕ)
         → Begins (main_bytes (V.state volume.old).log) reached → places.now
         ≡ places_of oid reached.known
         → IfOk result (λ found. found ≡ found_below oid front reached.list) }
+    ensures known { V.told → AreSourcesOf (main_bytes (V.state volume.new).log) known.new }
     ensures read { OnlyReadsMain (V.state volume.old) (V.state volume.new) result }
 {
     let Some(place) = last_before(places, front) else {
         return Ok(Found::Nothing);
     };
-    let content = read_content_before(alloc, volume, place.at, end)?;
+    let content = read_content_before(alloc, volume, known, place.at, end)?;
     let end = serial_from(places, front);
     Ok(found_with(content, place.serial, end))
 }
 
 /// The transaction with this tid, whole, or `None` where there is none, by the places of the
 /// transactions in what was read of the file, in the order in which they stand. It reads nothing but
-/// that transaction and the contents that it leads to, and nothing where there is none; memory is
-/// that of the transaction. It is `ReadFault` only where a read failed, and else `Memory`. The volume
-/// is as it was.
+/// that transaction and the contents that it leads to, and nothing where there is none. Back pointers
+/// are followed up to a record that is known, and where its contents stand is known from then on.
+/// Memory is that of the transaction and of what is known. It is `ReadFault` only where a read failed,
+/// and else `Memory`. The volume is as it was.
 pub fn read_transaction_with<V: Volume>(
     alloc: Global,
     volume: &mut V,
+    known: &mut KnownSources,
     starts: &[Place],
     tid: Tid,
 ) -> Result<Option<Transaction>, ReadError>
     requires starts { V.told → AreStarts (main_bytes (V.state volume.old).log) starts.now }
     requires rising { IsRising starts.now }
+    requires known { V.told → AreSourcesOf (main_bytes (V.state volume.old).log) known.old }
     ensures found { V.told → (reached : Reached)
         → Begins (main_bytes (V.state volume.old).log) reached
         → starts.now ≡ reached.starts
         → IfOk result (λ found. found ≡ transaction_at tid reached.list) }
+    ensures known { V.told → AreSourcesOf (main_bytes (V.state volume.new).log) known.new }
     ensures read { OnlyReadsMain (V.state volume.old) (V.state volume.new) result }
 {
     let Some(start) = first_from(starts, tid) else {
@@ -96,7 +107,7 @@ pub fn read_transaction_with<V: Volume>(
     if start.serial != tid {
         return Ok(None);
     }
-    Ok(Some(read_transaction_at(alloc, volume, start)?))
+    Ok(Some(read_transaction_at(alloc, volume, known, start)?))
 }
 
 /// The first transaction above this tid, whole, or `None` where there is none, by the places of the
@@ -124,7 +135,8 @@ pub fn read_first_after<V: Volume>(
     let Some(start) = first_from(starts, Tid(next)) else {
         return Ok(None);
     };
-    Ok(Some(read_transaction_at(alloc, volume, start)?))
+    let mut none = KnownSources::new(alloc);
+    Ok(Some(read_transaction_at(alloc, volume, &mut none, start)?))
 }
 
 /// The outline of the transaction with this tid, or `None` where there is none, by the places of the

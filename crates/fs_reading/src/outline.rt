@@ -11,6 +11,15 @@ pub struct Source {
     pub length: u64,
 }
 
+/// A data record whose content is known to stand somewhere.
+#[derive(Clone, Copy, Debug, PartialEq, Eq)]
+pub struct KnownSource {
+    /// Where the data record stands.
+    pub at: u64,
+    /// Where its content stands, or `None` where the object isn't there.
+    pub source: Option<Source>,
+}
+
 /// One object's new content, by where it stands.
 #[derive(Clone, Copy, Debug, PartialEq, Eq)]
 pub struct OutlinedChange {

@@ -4,6 +4,7 @@ ghost use Rattle.std.specs.Prelude.{◌≡◌, ℕ, ◌≤◌, ◌<◌, ◌^◌,
 ghost use Rattle.zb_model.specs.declared.data.Transaction.{Transaction};
 ghost use Rattle.fs_records.specs.Blocks.{Reached, Begins, Known};
 ghost use Rattle.fs_records.specs.Rules.{payload_size};
+ghost use Rattle.fs_reading.specs.Known.{AreSourcesOf};
 ghost use Rattle.fs_reading.specs.Main.{IsStart, IsStartOf};
 ghost use Rattle.fs_reading.specs.ChangesStand.{ChangesStand, RecordsBetween, entries_of};
 ghost use Rattle.fs_reading.specs.Standing.{TransactionStands};
@@ -14,6 +15,7 @@ ghost use Rattle.fs_reading.specs.Reads.{OnlyReadsMain};
 
 use crate::contents::source_of;
 use crate::errors::ReadError;
+use crate::known::KnownSources;
 use crate::outline::{Outline, OutlinedChange, Source};
 use crate::pieces::{bytes_at, data_header_at, header_at, user_and_description};
 use fs_index::Place;
@@ -49,6 +51,7 @@ fn changes_by(
 fn sources_between<V: Volume>(
     alloc: Global,
     volume: &mut V,
+    known: &mut KnownSources,
     from: u64,
     end: u64,
 ) -> Result<IndexMap<Oid, Option<Source>>, ReadError>
@@ -56,6 +59,7 @@ fn sources_between<V: Volume>(
     requires within { V.told → end ≤ length (main_bytes (V.state volume.old).log) }
     requires stand { V.told
         → (ks : List Known) × RecordsBetween (main_bytes (V.state volume.old).log) from end ks }
+    requires known { V.told → AreSourcesOf (main_bytes (V.state volume.old).log) known.old }
     ensures value { V.told → (ks : List Known)
         → RecordsBetween (main_bytes (V.state volume.old).log) from end ks
         → IfOk result (λ entries.
@@ -63,13 +67,14 @@ fn sources_between<V: Volume>(
     ensures within { V.told → IfOk result (λ entries.
         EntriesWithin (main_bytes (V.state volume.old).log) entries.entries) }
     ensures formed { IfOk result (λ entries. AreSources entries.entries) }
+    ensures known { V.told → AreSourcesOf (main_bytes (V.state volume.new).log) known.new }
     ensures read { OnlyReadsMain (V.state volume.old) (V.state volume.new) result }
 {
     let mut entries = IndexMap::new(alloc);
     let mut place = from;
     while place < end {
         let header = data_header_at(volume, place)?;
-        let source = source_of(volume, place, &header)?;
+        let source = source_of(volume, known, place, &header)?;
         entries.insert(header.oid, source)?;
         place = place
             .saturating_add(DATA_HEADER_LENGTH as u64)
@@ -82,12 +87,14 @@ fn sources_between<V: Volume>(
 pub(crate) fn outline_at<V: Volume>(
     alloc: Global,
     volume: &mut V,
+    known: &mut KnownSources,
     place: Place,
 ) -> Result<Outline, ReadError>
     requires short { V.told → length (main_bytes (V.state volume.old).log) < 2 ^ 64 }
     requires stands { V.told → (t : Transaction)
         × TransactionStands (main_bytes (V.state volume.old).log) place t
         × ChangesStand (main_bytes (V.state volume.old).log) place.at t.changes }
+    requires known { V.told → AreSourcesOf (main_bytes (V.state volume.old).log) known.old }
     ensures value { V.told → (t : Transaction)
         → TransactionStands (main_bytes (V.state volume.old).log) place t
         → ChangesStand (main_bytes (V.state volume.old).log) place.at t.changes
@@ -96,6 +103,7 @@ pub(crate) fn outline_at<V: Volume>(
     ensures within { V.told → IfOk result (λ outline.
         AllStandWithin (main_bytes (V.state volume.old).log) outline.changes) }
     ensures formed { IfOk result (λ outline. IsOutline outline) }
+    ensures known { V.told → AreSourcesOf (main_bytes (V.state volume.new).log) known.new }
     ensures read { OnlyReadsMain (V.state volume.old) (V.state volume.new) result }
 {
     let header = header_at(volume, place.at)?;
@@ -108,7 +116,7 @@ pub(crate) fn outline_at<V: Volume>(
     let extension = bytes_at(alloc, volume, behind, header.extension as usize)?;
     let from = behind.saturating_add(header.extension as u64);
     let end = place.at.saturating_add(header.length);
-    let entries = sources_between(alloc, volume, from, end)?;
+    let entries = sources_between(alloc, volume, known, from, end)?;
     let changes = changes_by(alloc, entries)?;
     Ok(Outline {
         tid: header.tid,
@@ -141,5 +149,6 @@ pub fn read_outline_at<V: Volume>(
     ensures formed { IfOk result (λ outline. IsOutline outline) }
     ensures read { OnlyReadsMain (V.state volume.old) (V.state volume.new) result }
 {
-    outline_at(alloc, volume, place)
+    let mut none = KnownSources::new(alloc);
+    outline_at(alloc, volume, &mut none, place)
 }

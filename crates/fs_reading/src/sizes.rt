@@ -14,6 +14,7 @@ ghost use Rattle.fs_reading.specs.Reads.{OnlyReadsMain};
 
 use crate::contents::source_of;
 use crate::errors::ReadError;
+use crate::known::KnownSources;
 use crate::noted::Noted;
 use crate::pieces::{back_pointer_at, data_header_at};
 use fs_index::Place;
@@ -44,6 +45,7 @@ fn noted_at(places: &[Place], noted: &[Noted], at: u64) -> Option<Noted>
 /// gone: as its header says, or as was noted of the earlier record that its back pointer leads to. The
 /// places are those of the object's earlier records.
 fn size_at<V: Volume>(
+    alloc: Global,
     volume: &mut V,
     at: u64,
     header: &DataHeader,
@@ -69,7 +71,8 @@ fn size_at<V: Volume>(
         return Ok(None);
     }
     let Some(earlier) = noted_at(places, noted, back) else {
-        let source = source_of(volume, at, header)?;
+        let mut none = KnownSources::new(alloc);
+        let source = source_of(volume, &mut none, at, header)?;
         return Ok(source.map(|source| source.length));
     };
     Ok(earlier.size)
@@ -95,7 +98,7 @@ pub(crate) fn note_all<V: Volume>(
     let mut noted = Vec::new(alloc);
     'note: for (count, place) in places.iter().enumerate() {
         let header = data_header_at(volume, place.at)?;
-        let size = size_at(volume, place.at, &header, &places[..count], &noted)?;
+        let size = size_at(alloc, volume, place.at, &header, &places[..count], &noted)?;
         noted.push(Noted {
             size,
             transaction: header.transaction,

@@ -3,6 +3,7 @@
 ghost use Rattle.std.specs.Prelude.{◌≡◌, ℕ, ◌<◌, ◌^◌, Some, length, map, slice_get, IfOk};
 ghost use Rattle.zb_model.specs.declared.data.Transaction.{Transaction};
 ghost use Rattle.fs_records.specs.Blocks.{Reached, Begins};
+ghost use Rattle.fs_reading.specs.Known.{AreSourcesOf};
 ghost use Rattle.fs_reading.specs.Main.{IsStart, IsStartOf};
 ghost use Rattle.fs_reading.specs.ChangesStand.{ChangesStand};
 ghost use Rattle.fs_reading.specs.Formed.{AreFormed, IsFormed};
@@ -13,6 +14,7 @@ ghost use Rattle.fs_reading.specs.Reads.{OnlyReadsMain};
 
 use crate::contents::content_from;
 use crate::errors::ReadError;
+use crate::known::KnownSources;
 use crate::outline::{Outline, OutlinedChange};
 use crate::outlining::outline_at;
 use fs_index::Place;
@@ -71,17 +73,20 @@ fn changes_from<V: Volume>(
 fn transaction_at<V: Volume>(
     alloc: Global,
     volume: &mut V,
+    known: &mut KnownSources,
     place: Place,
 ) -> Result<Transaction, ReadError>
     requires short { V.told → length (main_bytes (V.state volume.old).log) < 2 ^ 64 }
     requires stands { V.told → (t : Transaction)
         × TransactionStands (main_bytes (V.state volume.old).log) place t
         × ChangesStand (main_bytes (V.state volume.old).log) place.at t.changes }
+    requires known { V.told → AreSourcesOf (main_bytes (V.state volume.old).log) known.old }
     ensures value { V.told → (t : Transaction)
         → TransactionStands (main_bytes (V.state volume.old).log) place t
         → ChangesStand (main_bytes (V.state volume.old).log) place.at t.changes
         → IfOk result (λ read. read ≡ t) }
     ensures formed { IfOk result (λ read. IsFormed read) }
+    ensures known { V.told → AreSourcesOf (main_bytes (V.state volume.new).log) known.new }
     ensures read { OnlyReadsMain (V.state volume.old) (V.state volume.new) result }
 {
     let Outline {
@@ -91,7 +96,7 @@ fn transaction_at<V: Volume>(
         description,
         extension,
         changes,
-    } = outline_at(alloc, volume, place)?;
+    } = outline_at(alloc, volume, known, place)?;
     let changes = changes_from(alloc, volume, changes.as_slice())?;
     Ok(Transaction {
         tid,
@@ -111,14 +116,17 @@ fn transaction_at<V: Volume>(
 pub(crate) fn read_transaction_at<V: Volume>(
     alloc: Global,
     volume: &mut V,
+    known: &mut KnownSources,
     place: Place,
 ) -> Result<Transaction, ReadError>
-    requires { V.told → IsStart (main_bytes (V.state volume.old).log) place }
+    requires start { V.told → IsStart (main_bytes (V.state volume.old).log) place }
+    requires known { V.told → AreSourcesOf (main_bytes (V.state volume.old).log) known.old }
     ensures transaction { V.told → (reached : Reached) (number : ℕ)
         → Begins (main_bytes (V.state volume.old).log) reached → IsStartOf reached number place
         → IfOk result (λ t. slice_get reached.list number ≡ Some t) }
     ensures formed { IfOk result (λ t. IsFormed t) }
+    ensures known { V.told → AreSourcesOf (main_bytes (V.state volume.new).log) known.new }
     ensures read { OnlyReadsMain (V.state volume.old) (V.state volume.new) result }
 {
-    transaction_at(alloc, volume, place)
+    transaction_at(alloc, volume, known, place)
 }

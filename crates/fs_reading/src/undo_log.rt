@@ -6,12 +6,15 @@ ghost use Rattle.zb_model.specs.Lists.{undo_log_before, undo_log_of};
 ghost use Rattle.fs_records.specs.Blocks.{Reached, Begins};
 ghost use Rattle.fs_index.specs.Places.{IsRising};
 ghost use Rattle.fs_reading.specs.Main.{AreStarts};
+ghost use Rattle.fs_reading.specs.Showing.{Shows};
 ghost use Rattle.fs_reading.specs.Standing.{log_line_at, HasTexts};
 ghost use Rattle.zb_volume.specs.Disk.{main_bytes};
 ghost use Rattle.fs_reading.specs.Reads.{OnlyReadsMain};
 
+use crate::backwards::{go_back, head_of, no_piece, texts_of};
 use crate::errors::ReadError;
-use crate::pieces::{header_at, keep, user_and_description};
+use crate::piece::Piece;
+use crate::pieces::keep;
 use fs_index::{Place, count_below};
 use fs_records::PACKED;
 use std::alloc::Global;
@@ -19,28 +22,42 @@ use zb_ids::{ListOf, Tid};
 use zb_model::LogLine;
 use zb_volume::Volume;
 
-/// The line of the transaction at a place, if no pack has gone over it.
+/// The line of the transaction at a place, if no pack has gone over it; `before` is where the
+/// transaction before it stands. What is held is what `go_back` reads.
 fn line_at<V: Volume>(
     alloc: Global,
     volume: &mut V,
+    piece: &mut Piece,
     place: Place,
+    before: u64,
 ) -> Result<Option<LogLine>, ReadError>
     requires short { V.told → length (main_bytes (V.state volume.old).log) < 2 ^ 64 }
     requires texts { V.told → HasTexts (main_bytes (V.state volume.old).log) place.at }
+    requires shows { V.told → Shows piece.old (main_bytes (V.state volume.old).log) }
     ensures value { V.told → IfOk result (λ line.
         line ≡ log_line_at (main_bytes (V.state volume.old).log) place) }
+    ensures shows { V.told → Shows piece.new (main_bytes (V.state volume.new).log) }
     ensures read { OnlyReadsMain (V.state volume.old) (V.state volume.new) result }
 {
-    let header = header_at(volume, place.at)?;
+    go_back(alloc, volume, piece, place.at, before)?;
+    let header = head_of(volume, piece, place.at)?;
     if header.status == PACKED {
         return Ok(None);
     }
-    let (user, description) = user_and_description(alloc, volume, place.at, &header)?;
+    let (user, description) = texts_of(alloc, volume, piece, place.at, &header)?;
     Ok(Some(LogLine {
         tid: header.tid,
         user,
         description,
     }))
+}
+
+/// Where the last of these places is, or 0 where there is none.
+fn last_of(places: &[Place]) -> u64 {
+    match places.last() {
+        Some(place) => place.at,
+        None => 0,
+    }
 }
 
 /// The lines of the transactions at these places, the last one first.
@@ -58,10 +75,12 @@ fn lines_at<V: Volume>(
     ensures read { OnlyReadsMain (V.state volume.old) (V.state volume.new) result }
 {
     let mut lines = ListOf::new(alloc);
+    let mut piece = no_piece(alloc);
     let mut left = places.len();
     while left > 0 {
         left -= 1;
-        let line = line_at(alloc, volume, places[left])?;
+        let before = last_of(&places[..left]);
+        let line = line_at(alloc, volume, &mut piece, places[left], before)?;
         keep(&mut lines, line)?;
     }
     Ok(lines)
@@ -69,8 +88,10 @@ fn lines_at<V: Volume>(
 
 /// The list of the transactions that no pack has gone over, the newest first, with the tid, the user
 /// and the description of each, by the places of the transactions in what was read of the file, in
-/// the order in which they stand. It reads the headers and those two texts alone, and nothing that
-/// stands behind what was read; memory is that of the list. It is `ReadFault` only where a read
+/// the order in which they stand. It reads pieces of 64 KiB at most from the
+/// last transaction on back, each with at least two of these transactions, or one transaction's header
+/// and those two texts alone, and nothing that stands behind what was read; memory is that of the list
+/// and of one piece. It is `ReadFault` only where a read
 /// failed, and else `Memory`. The volume is as it was.
 pub fn read_undo_log_at<V: Volume>(
     alloc: Global,
@@ -104,22 +125,24 @@ fn lines_before<V: Volume>(
     ensures read { OnlyReadsMain (V.state volume.old) (V.state volume.new) result }
 {
     let mut lines = ListOf::new(alloc);
+    let mut piece = no_piece(alloc);
     let mut left = places.len();
     while left > 0 {
         if lines.len() as u64 >= count {
             return Ok(lines);
         }
         left -= 1;
-        let line = line_at(alloc, volume, places[left])?;
+        let before = last_of(&places[..left]);
+        let line = line_at(alloc, volume, &mut piece, places[left], before)?;
         keep(&mut lines, line)?;
     }
     Ok(lines)
 }
 
 /// The newest lines of the list of the transactions below a tid that no pack has gone over, no more
-/// than so many, by the places of the transactions as in `read_undo_log_at`. It reads the headers
-/// and the two texts of these lines alone, and the headers of packed transactions between them;
-/// memory is that of the lines. It is `ReadFault` only where a read failed, and else `Memory`. The
+/// than so many, by the places of the transactions as in `read_undo_log_at`. It reads in
+/// pieces as that does, which end behind the first of these lines; memory is that of the lines and of
+/// one piece. It is `ReadFault` only where a read failed, and else `Memory`. The
 /// volume is as it was.
 pub fn read_undo_log_before<V: Volume>(
     alloc: Global,

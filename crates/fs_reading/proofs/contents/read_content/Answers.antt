@@ -14,13 +14,13 @@ there bytes at known = (content_at known.reached.known known.oid at, content_kno
 pub data_header_at-requires : goal.data_header_at-requires
 data_header_at-requires g c = λ told.
     let bytes : List ℕ = main_bytes (g.V.Volume.state c.args.volume.now).log in
-    let t = there bytes c.args.at (c.requires told) in
+    let t = there bytes c.args.at (c.requires.place told) in
     head_within bytes t.0 c.args.at t.1
 
 pub content_of-requires-clause-some : goal.content_of-requires-clause-some
 content_of-requires-clause-some g c = λ told.
     let now = ap main_bytes c.data_header_at.ensures.read.same in
-    subst (λ (b : List ℕ). (content : Content) × IsContent b content c.args.at) (sym now) (there _ c.args.at (c.requires told))
+    subst (λ (b : List ℕ). (content : Content) × IsContent b content c.args.at) (sym now) (there _ c.args.at (c.requires.place told))
 
 pub returns-clause-content : goal.returns-clause-content
 returns-clause-content g c = λ told reached oid begins is.

@@ -32,7 +32,7 @@ content_of-requires-clause-header g c = λ told.
 pub content_of-requires-clause-some : goal.content_of-requires-clause-some
 content_of-requires-clause-some g c = λ told.
     let now = ap main_bytes c.fill_front.ensures.read.same in
-    subst (λ (b : List ℕ). (content : Content) × IsContent b content c.args.at) (sym now) (there _ c.args.at (c.requires.known told))
+    subst (λ (b : List ℕ). (content : Content) × IsContent b content c.args.at) (sym now) (there _ c.args.at (c.requires.place told))
 
 pub returns-clause-content : goal.returns-clause-content
 returns-clause-content g c = λ told reached oid begins is.

@@ -6,8 +6,8 @@ pub returns-in_default-clause-found : goal.returns-in_default-clause-found
 returns-in_default-clause-found g c = λ told reached oid begins are.
     nothing_below _ reached oid c.args.front c.args.places.now c.last_before.result begins are c.last_before.ensures c.in_default.is
 
-pub read_content_before-requires-clause-known : goal.read_content_before-requires-clause-known
-read_content_before-requires-clause-known g c = λ told.
+pub read_content_before-requires-clause-place : goal.read_content_before-requires-clause-place
+read_content_before-requires-clause-place g c = λ told.
     let file = c.requires.places told in
     record {
       reached = file.reached;

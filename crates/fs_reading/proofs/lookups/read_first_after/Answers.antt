@@ -20,8 +20,8 @@ returns-in_default-first_from-clause-found g c = λ told reached begins are.
     none_above_tid _ reached c.args.tid c.args.starts.now c.first_from.result begins are
     (behind c.tid.inside.0 c.args.tid c.in-Some.next c.args.starts.now c.first_from.result c.tid.view_is c.in-Some.ensures.1 c.first_from.ensures) c.in_default-first_from.is
 
-pub read_transaction_at-requires : goal.read_transaction_at-requires
-read_transaction_at-requires g c = λ told.
+pub read_transaction_at-requires-clause-start : goal.read_transaction_at-requires-clause-start
+read_transaction_at-requires-clause-start g c = λ told.
     let file = c.requires.starts told in
     let found = above_tid _ file.reached c.args.tid c.args.starts.now c.first_from.result c.in-Some-first_from.start file.begins file.are
     (behind c.tid.inside.0 c.args.tid c.in-Some.next c.args.starts.now c.first_from.result c.tid.view_is c.in-Some.ensures.1 c.first_from.ensures) c.in-Some-first_from.is in

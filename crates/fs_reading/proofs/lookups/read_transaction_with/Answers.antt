@@ -18,8 +18,8 @@ returns-then-ne-clause-found g c = λ told reached begins are.
     other_with_tid _ reached c.args.tid c.args.starts.now c.first_from.result c.in-Some.start begins are c.requires.rising c.first_from.ensures c.in-Some.is
     (other c.ne.result c.in-Some.start.serial c.args.tid c.ne.ensures c.if-ne.true)
 
-pub read_transaction_at-requires : goal.read_transaction_at-requires
-read_transaction_at-requires g c = λ told.
+pub read_transaction_at-requires-clause-start : goal.read_transaction_at-requires-clause-start
+read_transaction_at-requires-clause-start g c = λ told.
     let file = c.requires.starts told in
     let found = with_tid _ file.reached c.args.tid c.args.starts.now c.first_from.result c.in-Some.start file.begins file.are c.first_from.ensures c.in-Some.is (same c.ne.result c.in-Some.start.serial c.args.tid c.ne.ensures c.if-ne.false) in
     record { reached = file.reached; number = found.number; begins = file.begins; is = found.is; short = file.short }

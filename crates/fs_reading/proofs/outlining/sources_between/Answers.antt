@@ -1,4 +1,4 @@
-use Rattle.std.proofs.Common.{◌≡◌, ℕ, ◌+◌, ◌≤◌, List, length, refl, ap, sym, subst, ◌∙◌, arith}
+use Rattle.std.proofs.Common.{◌≡◌, ℕ, ◌+◌, ◌≤◌, List, length, ap, sym, subst, ◌∙◌, arith}
 use Rattle.std.specs.Prelude.{nat_eq}
 use Rattle.indexmap.specs.IndexMap.{insert_entry}
 use Rattle.zb_model.specs.declared.data.Content.{Content}
@@ -7,6 +7,7 @@ use Rattle.fs_records.specs.Rules.{payload_size}
 use Rattle.zb_volume.specs.Disk.{main_bytes}
 use Rattle.fs_reading.specs.Standing.{data_head_at, IsContent}
 use Rattle.fs_reading.specs.Outlines.{StandsWithin, outlined_content}
+use Rattle.fs_reading.specs.Known.{AreSourcesOf}
 use Rattle.fs_reading.specs.SourceEntries.{entries_from}
 use Rattle.fs_reading.proofs.Chains.{head_within}
 use Rattle.fs_reading.proofs.Forming.{entries_put, source_content, source_within, sources_more, within_more}
@@ -63,9 +64,23 @@ loop-place-preserved g c = record {
       let there = source_within _ n.content c.in_ok-source.source (c.in_ok-source.ensures.value told n.content (subst (λ (b : List ℕ). IsContent b n.content c.loop-place.place) (sym then) n.there)) in
       within_more bytes c.loop-place.entries.entries c.insert.new.self.entries c.in_ok-header.header.oid c.in_ok-source.source (c.loop-place.invariant.within told) (subst (λ (b : List ℕ). StandsWithin b c.in_ok-source.source) then there) c.in_ok-insert.ensures.entries;
   formed = sources_more c.loop-place.entries.entries c.insert.new.self.entries c.in_ok-header.header.oid c.in_ok-source.source c.loop-place.invariant.formed c.in_ok-source.ensures.filled c.in_ok-insert.ensures.entries c.in_ok-insert.ensures.unique;
+  known = λ told.
+      subst (λ (b : List ℕ). AreSourcesOf b c.source_of.new.known) (ap main_bytes (c.source_of.ensures.read.same ∙ c.data_header_at.ensures.read.same ∙ c.loop-place.invariant.same)) (c.source_of.ensures.known told);
 }
 
 pub returns-clause-value : goal.returns-clause-value
 returns-clause-value g c = λ told ks between.
     let bytes : List ℕ = main_bytes (g.V.Volume.state c.args.volume.now).log in
     ended bytes c.loop-place.place c.args.end (entries_from bytes c.loop-place.entries.entries) ks c.loop-place-test.false (c.loop-place.invariant.rest told ks between)
+
+pub source_of-requires-clause-known : goal.source_of-requires-clause-known
+source_of-requires-clause-known g c = λ told.
+    subst (λ (b : List ℕ). AreSourcesOf b c.loop-place.known) (sym (ap main_bytes (c.data_header_at.ensures.read.same ∙ c.loop-place.invariant.same))) (c.loop-place.invariant.known told)
+
+pub returns-in_err-header-clause-known : goal.returns-in_err-header-clause-known
+returns-in_err-header-clause-known g c = λ told.
+    subst (λ (b : List ℕ). AreSourcesOf b c.loop-place.known) (sym (ap main_bytes (c.data_header_at.ensures.read.same ∙ c.loop-place.invariant.same))) (c.loop-place.invariant.known told)
+
+pub returns-clause-known : goal.returns-clause-known
+returns-clause-known g c = λ told.
+    subst (λ (b : List ℕ). AreSourcesOf b c.loop-place.known) (sym (ap main_bytes c.loop-place.invariant.same)) (c.loop-place.invariant.known told)

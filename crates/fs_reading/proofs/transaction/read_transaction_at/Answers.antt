@@ -9,7 +9,7 @@ use Rattle.fs_reading.proofs.transaction.read_transaction_at.Goals as goal
 pub transaction_at-requires-clause-stands : goal.transaction_at-requires-clause-stands
 transaction_at-requires-clause-stands g c = λ told.
     let bytes : List ℕ = main_bytes (g.V.Volume.state c.args.volume.now).log in
-    let file = c.requires told in
+    let file = c.requires.start told in
     let there = stands bytes file.reached file.begins in
     let n = numbered bytes file.reached.starts file.reached.list file.number c.args.place there.transactions there.changes file.is in
     (n.transaction, n.stands, n.changes)

@@ -8,6 +8,7 @@ use Rattle.file_store.proofs.Hints.{at_last, hinted_or, hinted_up_to, leaves_for
 use Rattle.file_store.proofs.Leaves.{keeps_store, written_cause, written_reads, written_same}
 use Rattle.file_store.proofs.Packs.{unbroken}
 use Rattle.file_store.proofs.Sides.{copied_stays, keeps_begun, keeps_voted, kept_stays, list_stays, settled_stays, voted_stays}
+use Rattle.file_store.proofs.Sources.{known_stays}
 use Rattle.file_store.proofs.store.FileStore.write_hint.Goals as goal
 use Rattle.file_store.proofs.store.FileStore.write_hint.Goals.{After-write_hint}
 
@@ -33,6 +34,7 @@ invariant_of-self g c =
       voted = λ told whole. voted_stays log new (c.write_hint.ensures.others told Main refl) self.index (self.voted told c.requires);
       copied = λ told whole. copied_stays log new self.copy (c.write_hint.ensures.others told Side refl) (self.copied told c.requires);
       outlined = λ told whole x some. absurd cc;
+      known = λ told whole. known_stays log new self.index.end self.sources (c.write_hint.ensures.others told Main refl) (self.known told c.requires);
       hint = λ told.
           written_hint new self.index self.numbers (kept_stays log new (c.write_hint.ensures.others told Main refl) self.index self.numbers (self.kept told c.requires)) (at_last log new (moments g (goal.at.invariant_of-self g c).After-write_hint told)) (c.in-Ok.ensures.settled told)
           (written_for self.index self.numbers c.index.result.now c.end-end.result (seen new Hint) c.index.ensures.value c.end-end.ensures.value (c.in-Ok.ensures.content told));
@@ -50,6 +52,7 @@ invariant_of-self-in-Err g c =
       voted = λ told whole. voted_stays log new (c.write_hint.ensures.others told Main refl) self.index (self.voted told c.requires);
       copied = λ told whole. copied_stays log new self.copy (c.write_hint.ensures.others told Side refl) (self.copied told c.requires);
       outlined = λ told whole x some. absurd cc;
+      known = λ told whole. known_stays log new self.index.end self.sources (c.write_hint.ensures.others told Main refl) (self.known told c.requires);
       hint = λ told.
           let was = whole_before log self.broken self.index.end c.requires (self.hint told) in
           hinted_or log new c.eq-self.result self.index.end was (moments g (goal.at.invariant_of-self-in-Err g c).After-write_hint told) (λ whole. stays_same Hint log new (unbroken ℕ c.in-Err.error c.eq-self.result (new ≡ log) c.eq-self.ensures whole (written_same (g.V.Volume.state self.volume) (g.V.Volume.state c.write_hint.new.volume) c.in-Err.error c.in-Err.ensures.causes)));

@@ -10,6 +10,7 @@ use Rattle.file_store.proofs.Commits.{staged_some, none_there, abort_moments, ab
 use Rattle.file_store.proofs.Hints.{at_last, fronts_stay, hinted_broken, hinted_on, whole_before, stays_honest}
 use Rattle.file_store.proofs.Leaves.{abort_leaves, not_answered}
 use Rattle.file_store.proofs.Sides.{copied_stays, keeps_begun}
+use Rattle.file_store.proofs.Sources.{known_aborted}
 use Rattle.file_store.proofs.store.FileStoreStore.abort.Goals as goal
 
 -- what is left once what is staged is dropped
@@ -56,6 +57,7 @@ invariant_of-self g c =
       voted = λ told whole. absurd cc;
       copied = λ told whole. absurd cc;
       outlined = λ told whole x some. absurd cc;
+      known = λ told whole. absurd cc;
       hint = λ told.
           let log = (g.V.Volume.state self.volume).log in
           let new = (g.V.Volume.state c.abort.new.volume).log in
@@ -77,6 +79,8 @@ invariant_of-self-2 g c =
       voted = λ told whole. none_there Staged (λ x. IsVotedIn (seen (g.V.Volume.state c.abort.new.volume).log Main) x c.take_back.new.self) c.take_back.new.self.staged (staged_of self.index c.take_back.new.self t);
       copied = λ told whole. copied_stays (g.V.Volume.state self.volume).log (g.V.Volume.state c.abort.new.volume).log self.copy (c.abort.ensures.side told) (self.copied told c.requires.whole);
       outlined = λ told whole x some. absurd cc;
+      known = λ told whole.
+          known_aborted (seen (g.V.Volume.state self.volume).log Main) (seen (g.V.Volume.state c.abort.new.volume).log Main) c.end.result self.index.end c.take_back.new.self.end self.sources c.end.ensures.value (end_of self.index c.take_back.new.self t) (c.in_ok-abort.ensures.content told) (self.known told c.requires.whole);
       hint = λ told.
           let log = (g.V.Volume.state self.volume).log in
           let new = (g.V.Volume.state c.abort.new.volume).log in

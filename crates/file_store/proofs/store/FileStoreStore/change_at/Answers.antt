@@ -9,6 +9,7 @@ use Rattle.file_store.proofs.Hints.{hinted_still}
 use Rattle.file_store.proofs.Outlines.{none_found, some_found}
 use Rattle.file_store.proofs.Shown.{starts_of, still}
 use Rattle.file_store.proofs.Commits.{none_there}
+use Rattle.file_store.proofs.Sources.{known_still}
 use Rattle.file_store.proofs.store.FileStoreStore.change_at.Goals as goal
 
 pub outline_of-requires-clause-starts : goal.outline_of-requires-clause-starts
@@ -22,7 +23,7 @@ invariant_of-self g c =
     let self = c.args.self.now in
     let new = (g.V.Volume.state c.outline_of.new.volume).log in
     let k = still _ _ _ _ self.index self.numbers self.copy self.outline c.outline_of.ensures.read.same (record { settled = self.settled; kept = self.kept; voted = self.voted; copied = self.copied; outlined = self.outlined }) in
-    record { room = self.room; settled = k.settled; kept = k.kept; voted = k.voted; copied = k.copied; outlined = λ told whole. none_there Outline (λ x. IsOutlinedIn (seen new Main) x) c.take-known.new.self c.take-known.ensures.after; hint = λ told. hinted_still _ _ _ _ c.outline_of.ensures.read.same (self.hint told) }
+    record { room = self.room; settled = k.settled; kept = k.kept; voted = k.voted; copied = k.copied; outlined = λ told whole. none_there Outline (λ x. IsOutlinedIn (seen new Main) x) c.take-known.new.self c.take-known.ensures.after; known = known_still _ _ _ _ _ _ c.outline_of.ensures.read.same self.known; hint = λ told. hinted_still _ _ _ _ c.outline_of.ensures.read.same (self.hint told) }
 
 pub invariant_of-self-in_default : goal.invariant_of-self-in_default
 invariant_of-self-in_default g c =
@@ -36,6 +37,7 @@ invariant_of-self-in_default g c =
       voted = k.voted;
       copied = k.copied;
       outlined = λ told whole x some. subst (λ (log : List Event). IsOutlinedIn (seen log Main) x) (sym same) (c.in_ok-outline.ensures.outlined told x some);
+      known = known_still _ _ _ _ _ _ same self.known;
       hint = λ told. hinted_still _ _ _ _ same (self.hint told);
     }
 
@@ -55,6 +57,7 @@ invariant_of-self-2 g c =
       voted = k.voted;
       copied = k.copied;
       outlined = λ told whole x some. subst (λ (log : List Event). IsOutlinedIn (seen log Main) x) (sym same) (c.in_ok-outline.ensures.outlined told x some);
+      known = known_still _ _ _ _ _ _ same self.known;
       hint = λ told. hinted_still _ _ _ _ same (self.hint told);
     }
 

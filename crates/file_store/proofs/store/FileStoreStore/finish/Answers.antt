@@ -1,4 +1,4 @@
-use Rattle.std.proofs.Common.{refl, ap, length, ◌∙◌, arith}
+use Rattle.std.proofs.Common.{◌+◌, refl, ap, length, ◌∙◌, arith}
 use Rattle.zb_volume.specs.declared.areas.Area.TheVariants.{Main}
 use Rattle.zb_volume.specs.Disk.{seen}
 use Rattle.zb_model.specs.declared.data.Transaction.{Transaction}
@@ -8,6 +8,7 @@ use Rattle.file_store.proofs.Commits.{staged_some, some_mapped, none_there, fini
 use Rattle.file_store.proofs.Hints.{at_last, finishing, hinted_broken, hinted_on, whole_before, stays_honest}
 use Rattle.file_store.proofs.Leaves.{finish_leaves}
 use Rattle.file_store.proofs.Sides.{copied_stays, keeps_begun}
+use Rattle.file_store.proofs.Sources.{known_finished}
 use Rattle.file_store.proofs.store.FileStoreStore.finish.Goals as goal
 
 pub finish-requires-clause-within : goal.finish-requires-clause-within
@@ -35,6 +36,7 @@ invariant_of-self g c =
       voted = λ told whole. absurd cc;
       copied = λ told whole. absurd cc;
       outlined = λ told whole x some. absurd cc;
+      known = λ told whole. absurd cc;
       hint = λ told.
           let log = (g.V.Volume.state self.volume).log in
           let new = (g.V.Volume.state c.finish.new.volume).log in
@@ -57,6 +59,8 @@ invariant_of-self-2 g c =
       voted = λ told whole. none_there Staged (λ x. IsVotedIn (seen (g.V.Volume.state c.finish.new.volume).log Main) x c.keep.new.self) c.keep.new.self.staged none;
       copied = λ told whole. copied_stays (g.V.Volume.state self.volume).log (g.V.Volume.state c.finish.new.volume).log self.copy (c.finish.ensures.side told) (self.copied told c.requires.whole);
       outlined = λ told whole x some. absurd cc;
+      known = λ told whole.
+          known_finished (seen (g.V.Volume.state self.volume).log Main) (seen (g.V.Volume.state c.finish.new.volume).log Main) self.index.end c.keep.new.self.end (c.end.result + 16) 32 self.sources c.keep.ensures.end (omega (arith, c.end.ensures.value)) (c.in_ok-finish.ensures.content told) (self.known told c.requires.whole);
       hint = λ told.
           let log = (g.V.Volume.state self.volume).log in
           let new = (g.V.Volume.state c.finish.new.volume).log in

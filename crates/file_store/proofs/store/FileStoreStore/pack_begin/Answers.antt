@@ -5,6 +5,7 @@ use Rattle.file_store.proofs.Copies.{only_copy, begun_in_full}
 use Rattle.file_store.proofs.Hints.{at_last, hinted_broken, hinted_on, keeps_both, whole_before, stays_honest}
 use Rattle.file_store.proofs.Leaves.{copy_leaves}
 use Rattle.file_store.proofs.Sides.{keeps_voted, kept_stays, list_stays, settled_stays, voted_stays}
+use Rattle.file_store.proofs.Sources.{known_stays}
 use Rattle.file_store.proofs.store.FileStoreStore.pack_begin.Goals as goal
 
 -- a call of the volume failed
@@ -18,6 +19,7 @@ invariant_of-self g c =
       voted = λ told whole. absurd cc;
       copied = λ told whole. absurd cc;
       outlined = λ told whole x some. absurd cc;
+      known = λ told whole. absurd cc;
       hint = λ told.
           let log = (g.V.Volume.state self.volume).log in
           let new = (g.V.Volume.state c.begin.new.volume).log in
@@ -37,6 +39,7 @@ invariant_of-self-2 g c =
       voted = λ told whole. voted_stays log now (c.begin.ensures.main told) self.index (self.voted told c.requires);
       copied = λ told whole x some. only_copy (seen now Side) c.in-Ok.copy x some (c.in-Ok.ensures.copied told);
       outlined = λ told whole x some. absurd cc;
+      known = λ told whole. known_stays log now self.index.end self.sources (c.begin.ensures.main told) (self.known told c.requires);
       hint = λ told.
           let was = whole_before log self.broken self.index.end c.requires (self.hint told) in
           hinted_on log now self.index.end self.index.end was (omega arith) (keeps_both log now was.honest (c.begin.ensures.main told) (c.begin.ensures.hint told)) (c.begin.ensures.hint told);

@@ -9,6 +9,7 @@ use Rattle.file_store.proofs.Copies.{copy_is, only_copy, begun_in_full}
 use Rattle.file_store.proofs.Hints.{hinted_on, hinted_or, keeps_both, whole_before, stays_honest}
 use Rattle.file_store.proofs.Leaves.{copy_leaves, unless_any}
 use Rattle.file_store.proofs.Sides.{begun_of, keeps_voted, kept_stays, list_stays, settled_stays, voted_stays}
+use Rattle.file_store.proofs.Sources.{known_stays}
 use Rattle.file_store.proofs.store.FileStoreStore.pack_copy.Goals as goal
 
 pub copy_turn-requires-clause-copied : goal.copy_turn-requires-clause-copied
@@ -28,6 +29,7 @@ invariant_of-self-in-Ok g c =
       voted = λ told whole. voted_stays log now (c.copy_turn.ensures.main told) self.index (self.voted told c.requires.whole);
       copied = λ told whole x some. only_copy (seen now Side) c.copy_turn.new.to x some (c.in-Ok.ensures.copied told);
       outlined = λ told whole x some. absurd cc;
+      known = λ told whole. known_stays log now self.index.end self.sources (c.copy_turn.ensures.main told) (self.known told c.requires.whole);
       hint = λ told.
           let was = whole_before log self.broken self.index.end c.requires.whole (self.hint told) in
           hinted_on log now self.index.end self.index.end was (omega arith) (keeps_both log now was.honest (c.copy_turn.ensures.main told) (c.copy_turn.ensures.hint told)) (c.copy_turn.ensures.hint told);
@@ -45,6 +47,7 @@ invariant_of-self-in-Err g c =
       voted = λ told whole. voted_stays log now (c.copy_turn.ensures.main told) self.index (self.voted told c.requires.whole);
       copied = λ told whole. none_there CopyKept (λ x. IsCopyKept (seen now Side) x) c.take.new.self c.take.ensures.after;
       outlined = λ told whole x some. absurd cc;
+      known = λ told whole. known_stays log now self.index.end self.sources (c.copy_turn.ensures.main told) (self.known told c.requires.whole);
       hint = λ told.
           let was = whole_before log self.broken self.index.end c.requires.whole (self.hint told) in
           hinted_or log now _ self.index.end was (keeps_both log now was.honest (c.copy_turn.ensures.main told) (c.copy_turn.ensures.hint told)) (λ whole. c.copy_turn.ensures.hint told);

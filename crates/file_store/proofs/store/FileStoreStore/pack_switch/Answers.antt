@@ -15,6 +15,7 @@ use Rattle.file_store.proofs.Shown.{newest_is}
 use Rattle.file_store.proofs.Hints.{hinted_closed, hinted_or, whole_before, stays_honest}
 use Rattle.file_store.proofs.Leaves.{switch_leaves}
 use Rattle.file_store.proofs.Sides.{begun_of, kept_stays, list_stays, settled_stays, voted_stays}
+use Rattle.file_store.proofs.Sources.{known_none}
 use Rattle.file_store.proofs.store.FileStoreStore.pack_switch.Goals as goal
 
 pub pack_file-requires-clause-copied : goal.pack_file-requires-clause-copied
@@ -42,6 +43,7 @@ invariant_of-self-in-Err g c =
       voted = λ told whole. voted_stays log now (stays g c told whole) self.index (self.voted told c.requires.whole);
       copied = λ told whole. none_there CopyKept (λ x. IsCopyKept (seen now Side) x) c.take.new.self c.take.ensures.after;
       outlined = λ told whole x some. absurd cc;
+      known = λ told whole. known_none _ c.forget.new.self c.forget.ensures;
       hint = λ told.
           let was = whole_before log self.broken self.index.end c.requires.whole (self.hint told) in
           hinted_or log now _ self.index.end was ((c.pack_file.ensures.writes told).hint (was.settled refl) was.honest) (λ whole. hint_stays g c told whole);
@@ -58,6 +60,7 @@ invariant_of-self-in-Ok g c =
       voted = λ told whole. none_there Staged (λ x. IsVotedIn (seen now Main) x index) index.staged c.keep-ready.ensures.free;
       copied = λ told whole. none_there CopyKept (λ x. IsCopyKept (seen now Side) x) c.take.new.self c.take.ensures.after;
       outlined = λ told whole x some. absurd cc;
+      known = λ told whole. known_none _ c.forget.new.self c.forget.ensures;
       hint = λ told.
           let log = (g.V.Volume.state c.args.self.now.volume).log in
           let was = whole_before log c.args.self.now.broken c.args.self.now.index.end c.requires.whole (c.args.self.now.hint told) in

@@ -11,6 +11,7 @@ use Rattle.file_store.specs.Staging.{StagedKept}
 use Rattle.file_store.proofs.Hints.{at_last, fronts_stay, hinted_broken, hinted_on, whole_before, no_call_honest, stays_honest}
 use Rattle.file_store.proofs.Leaves.{vote_leaves}
 use Rattle.file_store.proofs.Sides.{copied_stays, keeps_begun}
+use Rattle.file_store.proofs.Sources.{known_voted, whole_main}
 use Rattle.file_store.proofs.store.FileStoreStore.vote.Goals as goal
 
 pub returns-in_err-text-clause-any_moment : goal.returns-in_err-text-clause-any_moment
@@ -38,6 +39,7 @@ invariant_of-self-in-Err g c =
       voted = λ told whole. absurd cc;
       copied = λ told whole. absurd cc;
       outlined = λ told whole x some. absurd cc;
+      known = λ told whole. absurd cc;
       hint = λ told.
           let log = (g.V.Volume.state self.volume).log in
           let new = (g.V.Volume.state c.vote.new.volume).log in
@@ -65,6 +67,10 @@ invariant_of-self-2 g c =
       voted = λ told whole s some. subst (λ (x : Staged). IsVotedIn (seen (g.V.Volume.state c.vote.new.volume).log Main) x c.prepare.new.index) (sym (some_same Staged c.prepare.new.index.staged _ s p.staged_is some)) (leaves g c told).voted;
       copied = λ told whole. copied_stays (g.V.Volume.state self.volume).log (g.V.Volume.state c.vote.new.volume).log self.copy (c.vote.ensures.side told) (self.copied told c.requires.whole);
       outlined = λ told whole x some. absurd cc;
+      known = λ told whole.
+          let log = (g.V.Volume.state self.volume).log in
+          let free = none_staged self.index.staged _ c.requires.free in
+          known_voted (seen log Main) (seen (g.V.Volume.state c.vote.new.volume).log Main) c.as_slice.result.now c.end.result self.index.end c.prepare.new.index.end self.sources (whole_main (seen log Main) self.index self.numbers (self.kept told c.requires.whole) free) (c.end.ensures.value ∙ c.prepare.ensures.end) c.prepare.ensures.end (c.in-Ok.ensures.content told) (self.known told c.requires.whole);
       hint = λ told.
           let log = (g.V.Volume.state self.volume).log in
           let new = (g.V.Volume.state c.vote.new.volume).log in

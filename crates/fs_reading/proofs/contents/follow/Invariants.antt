@@ -2,7 +2,7 @@ use Rattle.std.proofs.Common.{◌≡◌}
 use Rattle.zb_model.specs.declared.data.Content.{Content}
 use Rattle.zb_volume.specs.Disk.{main_bytes}
 use Rattle.fs_reading.specs.Standing.{data_head_at, IsContent}
-use Rattle.fs_reading.proofs.contents.source_of.Given as goal
+use Rattle.fs_reading.proofs.contents.follow.Given as goal
 
 abbrev pub invariant-loop-length : goal.invariant-loop-length
 invariant-loop-length g l = record {
