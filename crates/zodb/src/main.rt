@@ -3,6 +3,7 @@
 #![tactic(auto)]
 
 use host_volume::HostVolume;
+use read_ahead::ReadAhead;
 use script_runs::Status;
 use std::env;
 use std::io::ErrorKind;
@@ -39,7 +40,10 @@ fn main(rt: HostRuntime) -> ExitCode {
     let Some(words) = words_of(&rt) else {
         return ExitCode::from(Status::NoMemory.number());
     };
-    let Ok(volume) = HostVolume::new(rt.alloc(), &rt, path_of(words.as_slice())) else {
+    let Ok(files) = HostVolume::new(rt.alloc(), &rt, path_of(words.as_slice())) else {
+        return ExitCode::from(Status::NoMemory.number());
+    };
+    let Ok(volume) = ReadAhead::new(rt.alloc(), files) else {
         return ExitCode::from(Status::NoMemory.number());
     };
     let mut source = ReadSource::new(rt.stdin());
