@@ -1,5 +1,5 @@
 -- Bytes are put behind Side through a buffer.
-use Rattle.std.proofs.Common.{◌≡◌, ℕ, ◌+◌, ◌-◌, ◌<◌, ◌≤◌, List, [], ◌∷◌, ◌++◌, length, take, drop, Result, Ok, Err, OnOk, refl, sym, ap, subst, ◌∙◌, append_assoc, arith}
+use Rattle.std.proofs.Common.{◌≡◌, ℕ, ◌+◌, ◌-◌, List, [], ◌++◌, length, take, drop, Result, Ok, Err, OnOk, sym, ap, subst, ◌∙◌, append_assoc, arith}
 use Rattle.std.proofs.Math.Seq.{take-add}
 use Rattle.std.proofs.lemmas.List.{append-nil, drop-drop, length-append, take_rest}
 use Rattle.zb_base.specs.Bytes.{AreBytes}
@@ -49,11 +49,17 @@ pieces_join done more at bytes = ap (λ (xs : List ℕ). take done (drop at byte
 pub fronts_join : (done more : ℕ) (bytes : List ℕ) → take done bytes ++ take more (take (length bytes - done) (drop done bytes)) ≡ take (done + more) bytes
 fronts_join done more bytes = ap (λ (xs : List ℕ). take done bytes ++ take more xs) (take_rest bytes done) ∙ sym (take-add done more bytes)
 
--- where nothing is held before and after, they stand behind Side
-pub written_whole : (log now : List Event) (a b : Held) (text : List ℕ) → a.bytes ≡ [] → b.bytes ≡ [] → IsAppended log a now b text → seen now Side ≡ seen log Side ++ text
-written_whole log now a b text before after appended =
-    sym (append-nil (seen now Side)) ∙ ap (λ (x : List ℕ). seen now Side ++ x) (sym after) ∙ appended.text_is
-    ∙ ap (λ (x : List ℕ). (seen log Side ++ x) ++ text) before ∙ ap (λ (x : List ℕ). x ++ text) (append-nil (seen log Side))
+-- a buffer that holds nothing
+pub nothing_held : (log : List Event) (b : Held) → b.bytes ≡ [] → with_held log b ≡ seen log Side
+nothing_held log b none = ap (λ (x : List ℕ). seen log Side ++ x) none ∙ append-nil (seen log Side)
+
+-- what was held is written
+pub all_written : (log now : List Event) (a b : Held) → b.bytes ≡ [] → IsAppended log a now b [] → seen now Side ≡ with_held log a
+all_written log now a b none appended = sym (nothing_held now b none) ∙ appended.text_is ∙ append-nil (with_held log a)
+
+-- neither Side nor what is held has changed
+pub held_same : (log now : List Event) (a b : Held) → now ≡ log → b ≡ a → with_held now b ≡ with_held log a
+held_same log now a b still same = ap (λ (l : List Event). with_held l b) still ∙ ap (λ (h : Held). with_held log h) same
 
 -- ---- answers
 
@@ -64,7 +70,3 @@ ok_then (Err e) P Q then p = tt
 pub ok_so : {T E : Type 0} (r : Result T E) (P : Type 0) → P → OnOk r P
 ok_so (Ok x) P p = p
 ok_so (Err e) P p = tt
-
-pub ok_both : {T E : Type 0} (r : Result T E) (P Q R : Type 0) → (P → Q → R) → OnOk r P → OnOk r Q → OnOk r R
-ok_both (Ok x) P Q R so p q = so p q
-ok_both (Err e) P Q R so p q = tt

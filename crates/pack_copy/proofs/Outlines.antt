@@ -1,12 +1,10 @@
 -- An outlined transaction, and the transaction with the contents that stand in some bytes.
-use Rattle.std.proofs.Common.{◌≡◌, ℕ, ◌+◌, ◌<◌, ◌≤◌, ◌^◌, ◌-◌, Bool, true, false, cond, List, [], ◌∷◌, ◌++◌, All, length, get_or, map, take, drop, drop-cons, add-one, append_assoc, Option, Some, None, refl, sym, ap, subst, ◌∙◌, arith}
+use Rattle.std.proofs.Common.{◌≡◌, ℕ, ◌+◌, ◌<◌, ◌≤◌, cond, List, [], ◌∷◌, ◌++◌, All, length, get_or, map, take, drop, drop-cons, add-one, append_assoc, Option, Some, None, refl, sym, ap, subst, ◌∙◌, arith}
 use Rattle.std.specs.Prelude.{nat_eq}
 use Rattle.std.specs.List.{IsDistinct}
 use Rattle.std.proofs.lemmas.List.{append-nil, drop_all, length-drop, length-take-le}
 use Rattle.std.proofs.lemmas.List.Elements.{All-cons, All-nil, All-head, All-tail}
 use Rattle.zb_model.specs.declared.data.Change.{Change}
-use Rattle.zb_model.specs.declared.data.Content.{Content}
-use Rattle.zb_model.specs.declared.data.Transaction.{Transaction}
 use Rattle.fs_index.specs.declared.place.Placed.{Placed}
 use Rattle.fs_records.specs.Blocks.{Written, block_text, records_from}
 use Rattle.fs_index.specs.Places.{PlacesKept, oids_placed}

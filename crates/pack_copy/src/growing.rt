@@ -2,12 +2,13 @@
 
 ghost use Rattle.std.specs.Prelude.{◌≡◌, ◌-◌, ◌<◌, ◌≤◌, ◌^◌, ◌++◌, ◌∷◌, [], length, IfOk, OnOk};
 ghost use Rattle.zb_volume.specs.declared.areas.Area.{Area};
-ghost use Rattle.zb_volume.specs.Disk.{main_bytes, seen};
+ghost use Rattle.zb_volume.specs.Disk.{main_bytes};
 ghost use Rattle.zb_volume.specs.Moments.{StaysAs};
 ghost use Rattle.zb_model.specs.Database.{newest_tid};
 ghost use Rattle.fs_records.specs.Listed.{listed};
 ghost use Rattle.fs_recovery.specs.Opens.{newest_kept};
 ghost use Rattle.fs_reading.specs.Outlines.{AllStandWithin, IsOutline, outlined_transaction};
+ghost use Rattle.pack_copy.specs.Appending.{IsAtEnd, with_held};
 ghost use Rattle.pack_copy.specs.Copying.{IsCopied};
 ghost use Rattle.pack_copy.specs.Counting.{IsCopyCounted};
 ghost use Rattle.pack_copy.specs.Growing.{HasRoomToKeep, IsSame, IsWith, StandsNext};
@@ -17,7 +18,7 @@ use crate::buffer::Buffer;
 use crate::placing::place_records;
 use crate::ready::Ready;
 use crate::state::CopyState;
-use crate::writing::write_block;
+use crate::writing::put_block;
 use fs_index::Place;
 use fs_reading::Outline;
 use fs_records::HEADER_LENGTH;
@@ -71,10 +72,10 @@ impl CopyState {
     }
 }
 
-/// Puts an outlined transaction behind the file on Side, with each content in full, which goes there
-/// from Main through the buffer. The one errors are a read or a write that failed, and want of memory,
-/// also where the file would be longer than 2^63 - 1 bytes; then Side may hold anything. Main is as it
-/// was at every moment.
+/// Puts an outlined transaction behind the file that Side is with what is held, with each content in
+/// full, which goes there from Main through the buffer. The one errors are a read or a write that
+/// failed, and want of memory, also where the file would be longer than 2^63 - 1 bytes; then Side may
+/// hold anything. Main is as it was at every moment.
 pub(crate) fn append<V: Volume>(
     alloc: Global,
     volume: &mut V,
@@ -88,13 +89,15 @@ pub(crate) fn append<V: Volume>(
     requires short { V.told → length (main_bytes (V.state volume.old).log) < 2 ^ 64 }
     requires within { V.told
         → AllStandWithin (main_bytes (V.state volume.old).log) outline.now.changes }
-    requires copied { V.told → IsCopied (seen (V.state volume.old).log Area.Side) to.old }
+    requires side { V.told → IsAtEnd (V.state volume.old).log buffer.old }
+    requires copied { V.told → IsCopied (with_held (V.state volume.old).log buffer.old) to.old }
     requires later { V.told
-        → newest_tid (listed (seen (V.state volume.old).log Area.Side)) < outline.now.tid }
+        → newest_tid (listed (with_held (V.state volume.old).log buffer.old)) < outline.now.tid }
+    ensures side { V.told → OnOk result (IsAtEnd (V.state volume.new).log buffer.new) }
     ensures copied { V.told
-        → OnOk result (IsCopied (seen (V.state volume.new).log Area.Side) to.new) }
-    ensures list { V.told → OnOk result (listed (seen (V.state volume.new).log Area.Side)
-        ≡ listed (seen (V.state volume.old).log Area.Side)
+        → OnOk result (IsCopied (with_held (V.state volume.new).log buffer.new) to.new) }
+    ensures list { V.told → OnOk result (listed (with_held (V.state volume.new).log buffer.new)
+        ≡ listed (with_held (V.state volume.old).log buffer.old)
         ++ outlined_transaction (main_bytes (V.state volume.old).log) outline.now ∷ []) }
     ensures main { V.told → StaysAs Area.Main (V.state volume.old).log (V.state volume.new).log }
     ensures hint { V.told → StaysAs Area.Hint (V.state volume.old).log (V.state volume.new).log }
@@ -103,7 +106,7 @@ pub(crate) fn append<V: Volume>(
     ensures counts { IsCopyCounted (V.state volume.old) (V.state volume.new) result }
 {
     let ready = to.make_ready(alloc, outline)?;
-    write_block(volume, buffer, &to.index, to.end, ready.end, outline)?;
+    put_block(volume, buffer, &to.index, to.end, ready.end, outline)?;
     to.keep(outline.tid, outline.packed, &ready);
     Ok(())
 }

@@ -63,6 +63,13 @@ impl CopyState {
         }
     }
 
+    /// Where the file on Side ends.
+    pub(crate) fn end(&self) -> u64
+        ensures { result ≡ self.now.end }
+    {
+        self.end
+    }
+
     /// How many changes were copied.
     pub fn changes(&self) -> u64
         ensures { (list : List Transaction) → IsDatabase list → AreNumbersOf list self.now.numbers

@@ -12,6 +12,7 @@ ghost use Rattle.fs_records.specs.Blocks.{Reached, Begins};
 ghost use Rattle.fs_reading.specs.Main.{IsStart, IsStartOf};
 ghost use Rattle.fs_recovery.specs.Opens.{newest_kept};
 ghost use Rattle.fs_reading.specs.Outlines.{AllStandWithin, IsOutline, outlined_transaction};
+ghost use Rattle.pack_copy.specs.Appending.{IsAtEnd, with_held};
 ghost use Rattle.pack_copy.specs.Copying.{IsCopied, IsSource, copied_in};
 ghost use Rattle.pack_copy.specs.UpTo.{AddsUnlessEnough, AreShort, Ends, GoesOn, IsBelowNext, IsCopiedUpTo, IsCountUpTo};
 ghost use Rattle.pack_copy.specs.InFull.{full_file};
@@ -95,9 +96,9 @@ fn is_over(extent: Extent, changes: u64) -> bool
     }
 }
 
-/// Copies what is left of the transaction at a place of Main, where all transactions before it were
-/// gone over, unless a turn has copied enough. The answer is whether it was gone over: something is left
-/// of one that wasn't.
+/// Puts what is left of the transaction at a place of Main behind Side and what is held, where all
+/// transactions before it were gone over, unless a turn has copied enough. The answer is whether it was
+/// gone over: something is left of one that wasn't.
 fn copy_one<V: Volume>(
     alloc: Global,
     volume: &mut V,
@@ -110,25 +111,27 @@ fn copy_one<V: Volume>(
 ) -> Result<bool, StoreError>
     requires above { newest_kept to.old.index ≤ start.serial }
     requires bound { start.serial < 2 ^ 64 - 1 }
+    requires side { V.told → IsAtEnd (V.state volume.old).log buffer.old }
     requires source { V.told → IsSource (seen (V.state volume.old).log Area.Main) from.now }
     requires next { V.told → (number : ℕ)
         × IsStartOf (reached_in (seen (V.state volume.old).log Area.Main)) number start
         × IsCopiedUpTo (listed (seen (V.state volume.old).log Area.Main))
-        (seen (V.state volume.old).log Area.Side) to.old keep.now number }
+        (with_held (V.state volume.old).log buffer.old) to.old keep.now number }
+    ensures side { V.told → OnOk result (IsAtEnd (V.state volume.new).log buffer.new) }
     ensures next { V.told → (number : ℕ)
         → IsStartOf (reached_in (seen (V.state volume.old).log Area.Main)) number start
         → IsCopiedUpTo (listed (seen (V.state volume.old).log Area.Main))
-        (seen (V.state volume.old).log Area.Side) to.old keep.now number
+        (with_held (V.state volume.old).log buffer.old) to.old keep.now number
         → IfOk result (GoesOn (listed (seen (V.state volume.old).log Area.Main))
-        (seen (V.state volume.new).log Area.Side) to.new keep.now number) }
+        (with_held (V.state volume.new).log buffer.new) to.new keep.now number) }
     ensures enough { IfOk result (λ over. over ≡ false → enough ≡ true) }
     ensures added { V.told → IfOk result (λ over. AddsUnlessEnough enough
-        (listed (seen (V.state volume.old).log Area.Side))
-        (listed (seen (V.state volume.new).log Area.Side))) }
+        (listed (with_held (V.state volume.old).log buffer.old))
+        (listed (with_held (V.state volume.new).log buffer.new))) }
     ensures newest { OnOk result (newest_kept to.new.index ≤ start.serial) }
     ensures tid { to.new.tid ≡ to.old.tid }
     ensures unmoved { IfOk result (λ over. over ≡ false → ((V.state volume.new).log
-        ≡ (V.state volume.old).log) × (to.new ≡ to.old)) }
+        ≡ (V.state volume.old).log) × (buffer.new ≡ buffer.old) × (to.new ≡ to.old)) }
     ensures main { V.told → StaysAs Area.Main (V.state volume.old).log (V.state volume.new).log }
     ensures hint { V.told → StaysAs Area.Hint (V.state volume.old).log (V.state volume.new).log }
     ensures counts { IsCopyCounted (V.state volume.old) (V.state volume.new) result }
@@ -146,8 +149,59 @@ fn copy_one<V: Volume>(
     }
 }
 
+/// Puts what is left of the transactions of Main from the one with this number on, counted from 0,
+/// behind Side and what is held, where all before it were gone over: a turn of it, or all. The answer is
+/// whether that is all. Side is written where the buffer is full.
+fn copy_each<V: Volume>(
+    alloc: Global,
+    volume: &mut V,
+    buffer: &mut Buffer,
+    from: &Index,
+    to: &mut CopyState,
+    keep: &OidSet,
+    first: usize,
+    extent: Extent,
+) -> Result<bool, StoreError>
+    requires within { first ≤ length from.now.transactions }
+    requires above { IsBelowNext from.now.transactions (newest_kept to.old.index) first }
+    requires bound { All (λ p. p.serial < 2 ^ 64 - 1) from.now.transactions }
+    requires source { V.told → IsSource (seen (V.state volume.old).log Area.Main) from.now }
+    requires side { V.told → IsAtEnd (V.state volume.old).log buffer.old }
+    requires up_to { V.told → IsCopiedUpTo (listed (seen (V.state volume.old).log Area.Main))
+        (with_held (V.state volume.old).log buffer.old) to.old keep.now first }
+    ensures side { V.told → OnOk result (IsAtEnd (V.state volume.new).log buffer.new) }
+    ensures ends { V.told
+        → IfOk result (Ends (listed (seen (V.state volume.old).log Area.Main))
+        (with_held (V.state volume.new).log buffer.new) to.new keep.now first
+        (length from.now.transactions)) }
+    ensures turn { V.told → (before : ℕ) → extent ≡ Extent.Turn before
+        → IfOk result (λ whole. whole ≡ false
+        → before + changes_a_turn ≤ change_count
+        (listed (with_held (V.state volume.new).log buffer.new))) }
+    ensures short { V.told → (before : ℕ) → extent ≡ Extent.Turn before
+        → OnOk result (AreShort before (listed (with_held (V.state volume.old).log buffer.old))
+        (listed (with_held (V.state volume.new).log buffer.new))) }
+    ensures rest { extent ≡ Extent.Rest → IfOk result (λ whole. whole ≡ true) }
+    ensures tid { to.new.tid ≡ to.old.tid }
+    ensures main { V.told → StaysAs Area.Main (V.state volume.old).log (V.state volume.new).log }
+    ensures hint { V.told → StaysAs Area.Hint (V.state volume.old).log (V.state volume.new).log }
+    ensures counts { IsCopyCounted (V.state volume.old) (V.state volume.new) result }
+{
+    let starts = from.transactions();
+    let rest = &starts[first..];
+    'copy: for start in rest {
+        let enough = is_over(extent, to.changes());
+        let over = copy_one(alloc, volume, buffer, from, to, keep, *start, enough)?;
+        if !over {
+            return Ok(false);
+        }
+    }
+    Ok(true)
+}
+
 /// Copies what is left of the transactions of Main from the one with this number on, counted from 0,
-/// where all before it were gone over: a turn of it, or all. The answer is whether all is copied.
+/// where all before it were gone over: a turn of it, or all. The answer is whether all is copied. Side is
+/// written where 64 KiB are held, and at the end.
 fn copy_from<V: Volume>(
     alloc: Global,
     volume: &mut V,
@@ -181,16 +235,10 @@ fn copy_from<V: Volume>(
     ensures counts { IsCopyCounted (V.state volume.old) (V.state volume.new) result }
 {
     let mut buffer = Buffer::new(alloc)?;
-    let starts = from.transactions();
-    let rest = &starts[first..];
-    'copy: for start in rest {
-        let enough = is_over(extent, to.changes());
-        let over = copy_one(alloc, volume, &mut buffer, from, to, keep, *start, enough)?;
-        if !over {
-            return Ok(false);
-        }
-    }
-    Ok(true)
+    buffer.start(to.end());
+    let whole = copy_each(alloc, volume, &mut buffer, from, to, keep, first, extent)?;
+    buffer.flush(volume)?;
+    Ok(whole)
 }
 
 /// How many of these places are of a transaction up to a tid. They are the first ones.

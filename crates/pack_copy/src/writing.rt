@@ -1,11 +1,10 @@
-//! The text of an outlined transaction is written behind Side.
+//! The text of an outlined transaction is put behind Side.
 
 ghost use Rattle.std.specs.Prelude.{◌≡◌, ◌+◌, ◌<◌, ◌^◌, ◌++◌, ◌-◌, length, map, if◌then◌else◌, OnOk};
 ghost use Rattle.std.specs.List.{AllByRecursion, last_or};
 ghost use Rattle.zb_volume.specs.declared.areas.Area.{Area};
-ghost use Rattle.zb_volume.specs.Disk.{main_bytes, seen};
+ghost use Rattle.zb_volume.specs.Disk.{main_bytes};
 ghost use Rattle.zb_volume.specs.Moments.{StaysAs};
-ghost use Rattle.zb_base.specs.Bytes.{AreBytes};
 ghost use Rattle.fs_records.specs.Blocks.{block_text, payload_text, record_text, records_text};
 ghost use Rattle.fs_records.specs.HeaderLaws.{IsDataHeader};
 ghost use Rattle.fs_records.specs.Headers.{header_text};
@@ -182,10 +181,10 @@ fn put_head<V: Volume>(
     buffer.put(volume, outline.extension.as_slice())
 }
 
-/// Writes the text of an outlined transaction behind Side, where it stands from `at` to `end`, by the
-/// index of what stands there: its header, its texts, the data record of each change with its content in
-/// full, and its length once more. The contents go from Main to Side through the buffer.
-pub(crate) fn write_block<V: Volume>(
+/// Puts the text of an outlined transaction behind Side and what is held, where it stands from `at` to
+/// `end`, by the index of what stands there: its header, its texts, the data record of each change with
+/// its content in full, and its length once more. The contents go from Main to Side through the buffer.
+pub(crate) fn put_block<V: Volume>(
     volume: &mut V,
     buffer: &mut Buffer,
     places: &Index,
@@ -195,16 +194,12 @@ pub(crate) fn write_block<V: Volume>(
 ) -> Result<(), StoreError>
     requires outline { IsOutline outline.now }
     requires end { end ≡ end_in (records_begin at outline.now) outline.now.changes + 8 }
-    requires side { V.told → at ≡ length (seen (V.state volume.old).log Area.Side) }
+    requires side { V.told → IsAtEnd (V.state volume.old).log buffer.old }
     requires short { V.told → length (main_bytes (V.state volume.old).log) < 2 ^ 64 }
     requires within { V.told
         → AllStandWithin (main_bytes (V.state volume.old).log) outline.now.changes }
-    ensures text { V.told → OnOk result (seen (V.state volume.new).log Area.Side
-        ≡ seen (V.state volume.old).log Area.Side
-        ++ block_text at (block_in places.now.entries
-        (main_bytes (V.state volume.old).log) outline.now)) }
-    ensures fits { V.told
-        → OnOk result (AreBytes
+    ensures appended { V.told → OnOk result
+        (IsAppended (V.state volume.old).log buffer.old (V.state volume.new).log buffer.new
         (block_text at (block_in places.now.entries
         (main_bytes (V.state volume.old).log) outline.now))) }
     ensures room { V.told
@@ -224,10 +219,8 @@ pub(crate) fn write_block<V: Volume>(
         description: outline.description.len() as u16,
         extension: outline.extension.len() as u16,
     };
-    buffer.start(at);
     put_head(volume, buffer, &header, outline)?;
     let changes = outline.changes.as_slice();
     put_records(volume, buffer, places, outline.tid, at, changes)?;
-    buffer.put(volume, &number_bytes(length))?;
-    buffer.flush(volume)
+    buffer.put(volume, &number_bytes(length))
 }

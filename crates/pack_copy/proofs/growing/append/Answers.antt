@@ -1,7 +1,8 @@
-use Rattle.std.proofs.Common.{◌≡◌, refl, ap}
-use Rattle.zb_volume.specs.declared.areas.Area.TheVariants.{Main, Side, Hint}
+use Rattle.std.proofs.Common.{refl, ap}
+use Rattle.zb_volume.specs.declared.areas.Area.TheVariants.{Main}
 use Rattle.zb_volume.specs.Disk.{seen}
 use Rattle.zb_volume.specs.Moments.{here}
+use Rattle.pack_copy.specs.Appending.{with_held}
 use Rattle.pack_copy.specs.Copying.{CopyKept}
 use Rattle.pack_copy.proofs.Grown.{grown_so}
 use Rattle.pack_copy.proofs.Keeping.{newest_with, stands_next}
@@ -18,15 +19,15 @@ keep-requires-clause-next g c = stands_next c.make_ready.new.self c.args.outline
 
 pub returns-clause-copied : goal.returns-clause-copied
 returns-clause-copied g c = λ told.
-    (grown_so (seen (g.V.Volume.state c.args.volume.now).log Side) (seen (g.V.Volume.state c.args.volume.now).log Main) (seen (g.V.Volume.state c.write_block.new.volume).log Side) c.args.to.now c.make_ready.new.self c.keep.new.self c.args.outline.now c.in_ok-ready.ready
+    (grown_so (with_held (g.V.Volume.state c.args.volume.now).log c.args.buffer.now) (seen (g.V.Volume.state c.args.volume.now).log Main) (with_held (g.V.Volume.state c.put_block.new.volume).log c.put_block.new.buffer) c.args.to.now c.make_ready.new.self c.keep.new.self c.args.outline.now c.in_ok-ready.ready
     c.to.inside.end c.to.inside.index (ap (λ (k : CopyKept). k.end) c.to.view_is) (ap (λ (k : CopyKept). k.index) c.to.view_is) (c.requires.copied told) c.in_ok-ready.ensures.same c.requires.outline (c.requires.within told) c.in_ok-ready.ensures.ready
-    (c.in_ok-write_block.ensures.text told) (c.in_ok-write_block.ensures.fits told) (c.in_ok-write_block.ensures.room told) c.keep.ensures c.requires.bound (c.requires.later told)).copied
+    (c.in_ok-put_block.ensures.appended told).text_is (c.in_ok-put_block.ensures.appended told).fits (c.in_ok-put_block.ensures.room told) c.keep.ensures c.requires.bound (c.requires.later told)).copied
 
 pub returns-clause-list : goal.returns-clause-list
 returns-clause-list g c = λ told.
-    (grown_so (seen (g.V.Volume.state c.args.volume.now).log Side) (seen (g.V.Volume.state c.args.volume.now).log Main) (seen (g.V.Volume.state c.write_block.new.volume).log Side) c.args.to.now c.make_ready.new.self c.keep.new.self c.args.outline.now c.in_ok-ready.ready
+    (grown_so (with_held (g.V.Volume.state c.args.volume.now).log c.args.buffer.now) (seen (g.V.Volume.state c.args.volume.now).log Main) (with_held (g.V.Volume.state c.put_block.new.volume).log c.put_block.new.buffer) c.args.to.now c.make_ready.new.self c.keep.new.self c.args.outline.now c.in_ok-ready.ready
     c.to.inside.end c.to.inside.index (ap (λ (k : CopyKept). k.end) c.to.view_is) (ap (λ (k : CopyKept). k.index) c.to.view_is) (c.requires.copied told) c.in_ok-ready.ensures.same c.requires.outline (c.requires.within told) c.in_ok-ready.ensures.ready
-    (c.in_ok-write_block.ensures.text told) (c.in_ok-write_block.ensures.fits told) (c.in_ok-write_block.ensures.room told) c.keep.ensures c.requires.bound (c.requires.later told)).list
+    (c.in_ok-put_block.ensures.appended told).text_is (c.in_ok-put_block.ensures.appended told).fits (c.in_ok-put_block.ensures.room told) c.keep.ensures c.requires.bound (c.requires.later told)).list
 
 pub returns-clause-newest : goal.returns-clause-newest
 returns-clause-newest g c = newest_with c.make_ready.new.self c.keep.new.self c.args.outline.now.tid c.args.outline.now.packed c.in_ok-ready.ready c.keep.ensures

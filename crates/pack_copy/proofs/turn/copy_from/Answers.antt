@@ -1,125 +1,56 @@
-use Rattle.std.proofs.Common.{◌≡◌, ◌≤◌, ℕ, Bool, ◌+◌, List, refl, sym, subst, ◌∙◌, arith}
+use Rattle.std.proofs.Common.{◌≡◌, ◌≤◌, ◌+◌, ℕ, List, length, refl, sym, ap, subst, ◌∙◌}
 use Rattle.zb_volume.specs.declared.areas.Area.TheVariants.{Main, Side, Hint}
-use Rattle.zb_volume.specs.Calls.{Event}
 use Rattle.zb_volume.specs.Disk.{seen}
 use Rattle.zb_volume.specs.Moments.{here}
 use Rattle.zb_model.specs.Packs.{change_count, changes_a_turn}
-use Rattle.fs_records.specs.Listed.{listed, reached_in}
-use Rattle.fs_recovery.specs.Opens.{newest_kept}
-use Rattle.fs_reading.specs.Main.{IsStartOf}
-use Rattle.pack_copy.specs.CopiedLaws.{copied_counts}
-use Rattle.pack_copy.specs.Copying.{CopyKept, IsSource}
-use Rattle.pack_copy.specs.UpTo.{AreShort, GoesOn, IsBelowNext, IsCopiedUpTo}
-use Rattle.pack_copy.proofs.Short.{short_more}
-use Rattle.pack_copy.proofs.Stays.{seen_same, stays_join}
-use Rattle.pack_copy.proofs.Turns.{all_gone, next_above, start_is}
+use Rattle.fs_records.specs.Listed.{listed}
+use Rattle.pack_copy.specs.Appending.{Held, with_held}
+use Rattle.pack_copy.specs.UpTo.{AreShort, Ends, IsCopiedUpTo}
+use Rattle.pack_copy.proofs.Appendings.{all_written, nothing_held}
+use Rattle.pack_copy.proofs.Stays.{stays_join}
 use Rattle.pack_copy.proofs.turn.copy_from.Goals as goal
-use Rattle.pack_copy.proofs.turn.copy_from.Goals.{In_ok-over}
+use Rattle.pack_copy.proofs.turn.copy_from.Goals.{In_ok-flush}
 
-pub copy-init : goal.copy-init
-copy-init g c =
-    let first : c.args.first ≡ c.args.first + 0 = omega arith in
-    record {
-      main = λ told. here refl;
-      hint = λ told. here refl;
-      up_to = λ told. subst (λ (n : ℕ). IsCopiedUpTo (listed (seen (g.V.Volume.state c.args.volume.now).log Main)) (seen (g.V.Volume.state c.args.volume.now).log Side) c.args.to.now c.args.keep.now n) first (c.requires.up_to told);
-      short = λ told before is k above within. absurd (omega (arith, above, within));
-      above = subst (λ (n : ℕ). IsBelowNext c.args.from.now.transactions (newest_kept c.args.to.now.index) n) first c.requires.above;
-      tid = refl;
-      counts = record { reads = refl; writes = refl };
-    }
+pub copy_each-requires-clause-side : goal.copy_each-requires-clause-side
+copy_each-requires-clause-side g c = λ told. ap (λ (b : Held). b.end) c.start.ensures ∙ c.end.ensures ∙ sym (c.requires.up_to told).copied.long
 
-pub copy_one-requires-clause-source : goal.copy_one-requires-clause-source
-copy_one-requires-clause-source g c = λ told. subst (λ (m : List ℕ). IsSource m c.args.from.now) (sym (seen_same Main _ _ (c.copy.invariant.main told))) (c.requires.source told)
+pub copy_each-requires-clause-up_to : goal.copy_each-requires-clause-up_to
+copy_each-requires-clause-up_to g c = λ told.
+    let log = (g.V.Volume.state c.args.volume.now).log in
+    subst (λ (s : List ℕ). IsCopiedUpTo (listed (seen log Main)) s c.args.to.now c.args.keep.now c.args.first)
+    (sym (nothing_held log c.start.new.self (ap (λ (b : Held). b.bytes) c.start.ensures))) (c.requires.up_to told)
 
-pub copy_one-requires-clause-next : goal.copy_one-requires-clause-next
-copy_one-requires-clause-next g c = λ told.
-    let main = seen (g.V.Volume.state c.args.volume.now).log Main in
-    let same : main ≡ seen (g.V.Volume.state c.copy.volume).log Main = sym (seen_same Main _ _ (c.copy.invariant.main told)) in
-    let source = c.requires.source told in
-    let start = start_is c.transactions-starts.result.now (reached_in main).starts c.args.first c.copy.start-index c.start-item.result (c.transactions-starts.ensures.value ∙ source.index.transactions) c.copy-test.true c.start-item.is in (
-      c.args.first + c.copy.start-index,
-      subst (λ (m : List ℕ). IsStartOf (reached_in m) (c.args.first + c.copy.start-index) c.start-item.result) same start,
-      subst (λ (m : List ℕ). IsCopiedUpTo (listed m) (seen (g.V.Volume.state c.copy.volume).log Side) c.copy.to c.args.keep.now (c.args.first + c.copy.start-index)) same (c.copy.invariant.up_to told),
-    )
-
-pub returns-in_err-over-clause-main : goal.returns-in_err-over-clause-main
-returns-in_err-over-clause-main g c = λ told. stays_join Main _ _ _ (c.copy.invariant.main told) (c.copy_one.ensures.main told)
-
-pub returns-in_err-over-clause-hint : goal.returns-in_err-over-clause-hint
-returns-in_err-over-clause-hint g c = λ told. stays_join Hint _ _ _ (c.copy.invariant.hint told) (c.copy_one.ensures.hint told)
-
--- how the next transaction was gone over
-next : (g : _) (c : In_ok-over g) → g.V.Volume.told
-    → GoesOn (listed (seen (g.V.Volume.state c.args.volume.now).log Main)) (seen (g.V.Volume.state c.copy_one.new.volume).log Side) c.copy_one.new.to c.args.keep.now (c.args.first + c.copy.start-index) c.in_ok-over.over
-next g c told =
-    let main = seen (g.V.Volume.state c.args.volume.now).log Main in
-    let same : main ≡ seen (g.V.Volume.state c.copy.volume).log Main = sym (seen_same Main _ _ (c.copy.invariant.main told)) in
-    let source = c.requires.source told in
-    let start = start_is c.transactions-starts.result.now (reached_in main).starts c.args.first c.copy.start-index c.start-item.result (c.transactions-starts.ensures.value ∙ source.index.transactions) c.copy-test.true c.start-item.is in
-    subst (λ (m : List ℕ). GoesOn (listed m) (seen (g.V.Volume.state c.copy_one.new.volume).log Side) c.copy_one.new.to c.args.keep.now (c.args.first + c.copy.start-index) c.in_ok-over.over) (sym same)
-    (c.in_ok-over.ensures.next told (c.args.first + c.copy.start-index)
-    (subst (λ (m : List ℕ). IsStartOf (reached_in m) (c.args.first + c.copy.start-index) c.start-item.result) same start)
-    (subst (λ (m : List ℕ). IsCopiedUpTo (listed m) (seen (g.V.Volume.state c.copy.volume).log Side) c.copy.to c.args.keep.now (c.args.first + c.copy.start-index)) same (c.copy.invariant.up_to told)))
-
-pub copy-preserved : goal.copy-preserved
-copy-preserved g c =
-    let main = seen (g.V.Volume.state c.args.volume.now).log Main in
-    let after : (c.args.first + c.copy.start-index) + 1 ≡ c.args.first + (c.copy.start-index + 1) = omega arith in
-    record {
-      main = λ told. stays_join Main _ _ _ (c.copy.invariant.main told) (c.copy_one.ensures.main told);
-      hint = λ told. stays_join Hint _ _ _ (c.copy.invariant.hint told) (c.copy_one.ensures.hint told);
-      up_to = λ told.
-          subst (λ (n : ℕ). IsCopiedUpTo (listed main) (seen (g.V.Volume.state c.copy_one.new.volume).log Side) c.copy_one.new.to c.args.keep.now n) after
-          (subst (λ (b : Bool). GoesOn (listed main) (seen (g.V.Volume.state c.copy_one.new.volume).log Side) c.copy_one.new.to c.args.keep.now (c.args.first + c.copy.start-index) b) c.if-not-over.false (next g (goal.at.copy-preserved g c).In_ok-over told));
-      short = λ told before is.
-          let side = seen (g.V.Volume.state c.copy.volume).log Side in
-          let k = copied_counts side c.copy.to (c.copy.invariant.up_to told).copied in
-          let changes = c.changes.ensures (listed side) k.0 k.1 in
-          short_more c.is_over-enough.result before (listed (seen (g.V.Volume.state c.args.volume.now).log Side)) (listed side) (listed (seen (g.V.Volume.state c.copy_one.new.volume).log Side))
-          (λ early. omega (arith, c.is_over-enough.ensures.early before is early, changes)) (c.in_ok-over.ensures.added told) (c.copy.invariant.short told before is);
-      above = next_above c.transactions-starts.result.now c.args.from.now.transactions c.args.first c.copy.start-index (newest_kept c.copy_one.new.to.index) c.start-item.result c.transactions-starts.ensures.value c.transactions-starts.ensures.rising c.copy-test.true c.start-item.is c.in_ok-over.ensures.newest;
-      tid = c.copy_one.ensures.tid ∙ c.copy.invariant.tid;
-      counts = record {
-        reads = c.in_ok-over.ensures.counts.reads ∙ c.copy.invariant.counts.reads;
-        writes = c.in_ok-over.ensures.counts.writes ∙ c.copy.invariant.counts.writes;
-      };
-    }
-
-pub returns-then-not-over-clause-ends : goal.returns-then-not-over-clause-ends
-returns-then-not-over-clause-ends g c = λ told.
-    let main = seen (g.V.Volume.state c.args.volume.now).log Main in
-    let still = c.in_ok-over.ensures.unmoved c.if-not-over.true in
-    record {
-      more = c.copy.start-index;
-      up_to = subst (λ (k : CopyKept). IsCopiedUpTo (listed main) (seen (g.V.Volume.state c.copy_one.new.volume).log Side) k c.args.keep.now (c.args.first + c.copy.start-index)) (sym still.1)
-          (subst (λ (l : List Event). IsCopiedUpTo (listed main) (seen l Side) c.copy.to c.args.keep.now (c.args.first + c.copy.start-index)) (sym still.0) (c.copy.invariant.up_to told));
-      end = subst (λ (b : Bool). GoesOn (listed main) (seen (g.V.Volume.state c.copy_one.new.volume).log Side) c.copy_one.new.to c.args.keep.now (c.args.first + c.copy.start-index) b) c.if-not-over.true (next g (goal.at.returns-then-not-over-clause-ends g c).In_ok-over told);
-    }
-
-pub returns-then-not-over-clause-turn : goal.returns-then-not-over-clause-turn
-returns-then-not-over-clause-turn g c = λ told before is none.
-    let side = seen (g.V.Volume.state c.copy.volume).log Side in
-    let k = copied_counts side c.copy.to (c.copy.invariant.up_to told).copied in
-    let changes = c.changes.ensures (listed side) k.0 k.1 in
-    let still = c.in_ok-over.ensures.unmoved c.if-not-over.true in
-    let passed = c.is_over-enough.ensures.turn before is (c.in_ok-over.ensures.enough c.if-not-over.true) in
-    subst (λ (l : List Event). before + changes_a_turn ≤ change_count (listed (seen l Side))) (sym still.0) (omega (arith, passed, changes))
-
-pub returns-then-not-over-clause-short : goal.returns-then-not-over-clause-short
-returns-then-not-over-clause-short g c = λ told before is.
-    let still = c.in_ok-over.ensures.unmoved c.if-not-over.true in
-    subst (λ (l : List Event). AreShort before (listed (seen (g.V.Volume.state c.args.volume.now).log Side)) (listed (seen l Side))) (sym still.0) (c.copy.invariant.short told before is)
-
-pub returns-clause-short : goal.returns-clause-short
-returns-clause-short g c = λ told before is. c.copy.invariant.short told before is
+-- all that was held stands on Side
+written : (g : _) (c : In_ok-flush g) → g.V.Volume.told → with_held (g.V.Volume.state c.copy_each.new.volume).log c.copy_each.new.buffer ≡ seen (g.V.Volume.state c.flush.new.volume).log Side
+written g c told = sym (all_written _ _ c.copy_each.new.buffer c.flush.new.self c.in_ok-flush.ensures.empty (c.in_ok-flush.ensures.appended told))
 
 pub returns-clause-ends : goal.returns-clause-ends
-returns-clause-ends g c = λ told. record {
-  more = c.copy.start-index;
-  up_to = c.copy.invariant.up_to told;
-  end = all_gone c.transactions-starts.result.now c.args.from.now.transactions c.args.first c.copy.start-index c.transactions-starts.ensures.value c.requires.within c.copy-test.false c.copy.auto.start-index-end;
-}
+returns-clause-ends g c = λ told.
+    subst (λ (s : List ℕ). Ends (listed (seen (g.V.Volume.state c.args.volume.now).log Main)) s c.copy_each.new.to c.args.keep.now c.args.first (length c.args.from.now.transactions) c.in_ok-whole.whole)
+    (written g (goal.at.returns-clause-ends g c).In_ok-flush told) (c.in_ok-whole.ensures.ends told)
+
+pub returns-clause-turn : goal.returns-clause-turn
+returns-clause-turn g c = λ told before is part.
+    subst (λ (s : List ℕ). before + changes_a_turn ≤ change_count (listed s)) (written g (goal.at.returns-clause-turn g c).In_ok-flush told) (c.in_ok-whole.ensures.turn told before is part)
+
+pub returns-clause-short : goal.returns-clause-short
+returns-clause-short g c = λ told before is.
+    let log = (g.V.Volume.state c.args.volume.now).log in
+    subst (λ (s : List ℕ). AreShort before (listed (seen log Side)) (listed s)) (written g (goal.at.returns-clause-short g c).In_ok-flush told)
+    (subst (λ (s : List ℕ). AreShort before (listed s) (listed (with_held (g.V.Volume.state c.copy_each.new.volume).log c.copy_each.new.buffer)))
+    (nothing_held log c.start.new.self (ap (λ (b : Held). b.bytes) c.start.ensures)) (c.in_ok-whole.ensures.short told before is))
+
+pub returns-clause-main : goal.returns-clause-main
+returns-clause-main g c = λ told. stays_join Main _ _ _ (c.copy_each.ensures.main told) (c.flush.ensures.main told)
+
+pub returns-clause-hint : goal.returns-clause-hint
+returns-clause-hint g c = λ told. stays_join Hint _ _ _ (c.copy_each.ensures.hint told) (c.flush.ensures.hint told)
+
+pub returns-in_err-flush-clause-main : goal.returns-in_err-flush-clause-main
+returns-in_err-flush-clause-main g c = λ told. stays_join Main _ _ _ (c.copy_each.ensures.main told) (c.flush.ensures.main told)
+
+pub returns-in_err-flush-clause-hint : goal.returns-in_err-flush-clause-hint
+returns-in_err-flush-clause-hint g c = λ told. stays_join Hint _ _ _ (c.copy_each.ensures.hint told) (c.flush.ensures.hint told)
 
 pub returns-in_err-buffer-clause-main : goal.returns-in_err-buffer-clause-main
 returns-in_err-buffer-clause-main g c = λ told. here refl

@@ -1,7 +1,6 @@
-use Rattle.std.proofs.Common.{◌≡◌, ℕ, List, Some, ap, subst, sym}
+use Rattle.std.proofs.Common.{ℕ, List, ap, subst, sym}
 use Rattle.zb_volume.specs.declared.areas.Area.TheVariants.{Main}
 use Rattle.zb_volume.specs.Disk.{seen}
-use Rattle.fs_reading.specs.declared.outline.OutlinedChange.{OutlinedChange}
 use Rattle.fs_reading.specs.declared.outline.Outline.{Outline}
 use Rattle.fs_reading.specs.Outlines.{AllStandWithin, outlined_transaction}
 use Rattle.pack_copy.proofs.Turns.{with_its_tid}

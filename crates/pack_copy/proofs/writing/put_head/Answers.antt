@@ -1,4 +1,3 @@
-use Rattle.std.proofs.Common.{◌≡◌, ◌++◌}
 use Rattle.zb_volume.specs.declared.areas.Area.TheVariants.{Main, Hint}
 use Rattle.fs_records.specs.Headers.{header_text}
 use Rattle.pack_copy.proofs.Appendings.{appended_is, appended_join, ok_then}

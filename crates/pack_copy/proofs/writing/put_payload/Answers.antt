@@ -1,4 +1,4 @@
-use Rattle.std.proofs.Common.{◌≡◌, ℕ, ◌+◌, List, length, take, drop, sym, ap, ◌∙◌, arith}
+use Rattle.std.proofs.Common.{◌≡◌, ℕ, ◌+◌, List, take, drop, sym, ap, ◌∙◌, arith}
 use Rattle.zb_volume.specs.Disk.{main_bytes}
 use Rattle.fs_records.specs.Blocks.{payload_text}
 use Rattle.fs_reading.specs.Outlines.{outlined_content}

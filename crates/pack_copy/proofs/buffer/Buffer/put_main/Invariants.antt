@@ -1,4 +1,4 @@
-use Rattle.std.proofs.Common.{◌≡◌, ◌-◌, ◌≤◌, take, drop}
+use Rattle.std.proofs.Common.{◌-◌, ◌≤◌, take, drop}
 use Rattle.zb_volume.specs.declared.areas.Area.TheVariants.{Main, Hint}
 use Rattle.zb_volume.specs.Disk.{main_bytes}
 use Rattle.zb_volume.specs.Moments.{StaysAs}

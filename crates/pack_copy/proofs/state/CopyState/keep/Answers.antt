@@ -1,4 +1,4 @@
-use Rattle.std.proofs.Common.{◌≡◌, ℕ, ◌+◌, ◌≤◌, All, List, ap, sym, subst, ◌∙◌, arith}
+use Rattle.std.proofs.Common.{◌≡◌, ℕ, ◌≤◌, All, List, ap, sym, subst, ◌∙◌, arith}
 use Rattle.std.specs.Prelude.{◌++◌}
 use Rattle.fs_index.specs.declared.place.Placed.{Placed}
 use Rattle.fs_index.specs.Places.{Kept, places_in, placed_of}

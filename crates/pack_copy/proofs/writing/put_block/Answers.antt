@@ -1,22 +1,19 @@
-use Rattle.std.proofs.Common.{◌≡◌, ℕ, ◌+◌, ◌-◌, ◌++◌, List, [], cond, length, map, OnOk, refl, ap, subst, ◌∙◌, arith}
+use Rattle.std.proofs.Common.{◌≡◌, ℕ, ◌-◌, ◌++◌, List, cond, length, map, refl, sym, ap, subst, ◌∙◌, arith}
 use Rattle.std.specs.List.{AllByRecursion}
-use Rattle.zb_base.specs.Bytes.{AreBytes}
-use Rattle.zb_volume.specs.declared.areas.Area.TheVariants.{Main, Side, Hint}
-use Rattle.zb_volume.specs.Disk.{main_bytes, seen}
+use Rattle.std.proofs.lemmas.List.{append-nil}
+use Rattle.zb_volume.specs.declared.areas.Area.TheVariants.{Main, Hint}
+use Rattle.zb_volume.specs.Disk.{main_bytes}
 use Rattle.fs_records.specs.declared.header.Header.{Header}
-use Rattle.fs_records.specs.Blocks.{block_text, records_text}
+use Rattle.fs_records.specs.Blocks.{records_text}
 use Rattle.fs_records.specs.Headers.{header_text}
-use Rattle.fs_records.specs.Numbers.{number}
 use Rattle.fs_records.specs.Writing.{HasRoom}
 use Rattle.fs_reading.specs.declared.outline.OutlinedChange.{OutlinedChange}
-use Rattle.pack_copy.specs.Appending.{Held, IsAppended}
-use Rattle.pack_copy.specs.Outlined.{block_in, record_in, records_begin}
-use Rattle.pack_copy.proofs.Appendings.{appended_is, appended_join, ok_both, ok_so, ok_then, written_whole}
+use Rattle.pack_copy.specs.Outlined.{record_in, records_begin}
+use Rattle.pack_copy.proofs.Appendings.{appended_is, appended_join, ok_so, ok_then}
 use Rattle.pack_copy.proofs.Outlines.{end_behind}
 use Rattle.pack_copy.proofs.Stays.{seen_same, stays_join}
 use Rattle.pack_copy.proofs.Texts.{length_is, whole_text}
-use Rattle.pack_copy.proofs.writing.write_block.Goals as goal
-use Rattle.pack_copy.proofs.writing.write_block.Goals.{After-flush}
+use Rattle.pack_copy.proofs.writing.put_block.Goals as goal
 
 pub overflow_sub-length-2 : goal.overflow_sub-length-2
 overflow_sub-length-2 g c = omega (arith, c.requires.end, end_behind (records_begin c.args.at c.args.outline.now) c.args.outline.now.changes)
@@ -27,24 +24,15 @@ returns-in_err-put_records-clause-main g c = λ told. stays_join Main _ _ _ (c.p
 pub returns-in_err-put_records-clause-hint : goal.returns-in_err-put_records-clause-hint
 returns-in_err-put_records-clause-hint g c = λ told. stays_join Hint _ _ _ (c.put_head.ensures.hint told) (c.put_records.ensures.hint told)
 
-pub returns-in_err-put-clause-main : goal.returns-in_err-put-clause-main
-returns-in_err-put-clause-main g c = λ told. stays_join Main _ _ _ (stays_join Main _ _ _ (c.put_head.ensures.main told) (c.put_records.ensures.main told)) (c.put.ensures.main told)
-
-pub returns-in_err-put-clause-hint : goal.returns-in_err-put-clause-hint
-returns-in_err-put-clause-hint g c = λ told. stays_join Hint _ _ _ (stays_join Hint _ _ _ (c.put_head.ensures.hint told) (c.put_records.ensures.hint told)) (c.put.ensures.hint told)
-
 pub returns-clause-main : goal.returns-clause-main
-returns-clause-main g c = λ told.
-    stays_join Main _ _ _ (stays_join Main _ _ _ (stays_join Main _ _ _ (c.put_head.ensures.main told) (c.put_records.ensures.main told)) (c.put.ensures.main told)) (c.flush.ensures.main told)
+returns-clause-main g c = λ told. stays_join Main _ _ _ (stays_join Main _ _ _ (c.put_head.ensures.main told) (c.put_records.ensures.main told)) (c.put.ensures.main told)
 
 pub returns-clause-hint : goal.returns-clause-hint
-returns-clause-hint g c = λ told.
-    stays_join Hint _ _ _ (stays_join Hint _ _ _ (stays_join Hint _ _ _ (c.put_head.ensures.hint told) (c.put_records.ensures.hint told)) (c.put.ensures.hint told)) (c.flush.ensures.hint told)
+returns-clause-hint g c = λ told. stays_join Hint _ _ _ (stays_join Hint _ _ _ (c.put_head.ensures.hint told) (c.put_records.ensures.hint told)) (c.put.ensures.hint told)
 
 -- the whole text was put behind Side and what is held
-whole : (g : _) (c : After-flush g) → g.V.Volume.told
-    → OnOk c.flush.result (IsAppended (g.V.Volume.state c.args.volume.now).log c.start.new.self (g.V.Volume.state c.flush.new.volume).log c.flush.new.self (block_text c.args.at (block_in c.args.places.now.entries (main_bytes (g.V.Volume.state c.args.volume.now).log) c.args.outline.now)))
-whole g c told =
+pub returns-clause-appended : goal.returns-clause-appended
+returns-clause-appended g c = λ told.
     let o = c.args.outline.now in
     let main : List ℕ = main_bytes (g.V.Volume.state c.args.volume.now).log in
     let entries = c.args.places.now.entries in
@@ -57,25 +45,17 @@ whole g c told =
     let first : List ℕ = header_text h ++ (o.user ++ (o.description ++ o.extension)) in
     let records : records_text c.args.at o.tid (map (record_in entries (main_bytes (g.V.Volume.state c.put_head.new.volume).log)) c.as_slice-changes.result.now) ≡ records_text c.args.at o.tid (map (record_in entries main) o.changes) =
     ap (λ (xs : List ℕ). records_text c.args.at o.tid (map (record_in entries xs) c.as_slice-changes.result.now)) same ∙ ap (λ (cs : List OutlinedChange). records_text c.args.at o.tid (map (record_in entries main) cs)) c.as_slice-changes.ensures in
-    let text = ap (λ (xs : List ℕ). ((first ++ xs) ++ c.number_bytes.result) ++ []) records
-    ∙ ap (λ (xs : List ℕ). ((first ++ records_text c.args.at o.tid (map (record_in entries main) o.changes)) ++ xs) ++ []) c.number_bytes.ensures
+    let text = ap (λ (xs : List ℕ). (first ++ xs) ++ c.number_bytes.result) records
+    ∙ ap (λ (xs : List ℕ). (first ++ records_text c.args.at o.tid (map (record_in entries main) o.changes)) ++ xs) c.number_bytes.ensures
+    ∙ sym (append-nil _)
     ∙ whole_text entries main c.args.at long o h long_is head in
     let two = appended_join _ _ _ _ _ _ first _ (c.in_ok-put_head.ensures.appended told) (c.in_ok-put_records.ensures.appended told) in
-    let three = appended_join _ _ _ _ _ _ _ _ two (c.in_ok-put.ensures.appended told) in
-    ok_then c.flush.result _ _ (λ rest. appended_is _ _ _ _ _ _ text (appended_join _ _ _ _ _ _ _ _ three rest)) (c.flush.ensures.appended told)
-
-pub returns-clause-text : goal.returns-clause-text
-returns-clause-text g c = λ told.
-    let nothing = ap (λ (b : Held). b.bytes) c.start.ensures in
-    ok_both c.flush.result _ _ _ (λ appended empty. written_whole _ _ c.start.new.self c.flush.new.self _ nothing empty appended) (whole g c told) c.flush.ensures.empty
-
-pub returns-clause-fits : goal.returns-clause-fits
-returns-clause-fits g c = λ told. ok_then c.flush.result _ _ (λ appended. appended.fits) (whole g c told)
+    ok_then c.put.result _ _ (λ rest. appended_is _ _ _ _ _ _ text (appended_join _ _ _ _ _ _ _ _ two rest)) (c.put.ensures.appended told)
 
 pub returns-clause-room : goal.returns-clause-room
 returns-clause-room g c = λ told.
     let entries = c.args.places.now.entries in
     let same = seen_same Main _ _ (c.put_head.ensures.main told) in
-    ok_so c.flush.result _
+    ok_so c.put.result _
     (subst (λ (cs : List OutlinedChange). AllByRecursion HasRoom (map (record_in entries (main_bytes (g.V.Volume.state c.args.volume.now).log)) cs)) c.as_slice-changes.ensures
     (subst (λ (xs : List ℕ). AllByRecursion HasRoom (map (record_in entries xs) c.as_slice-changes.result.now)) same (c.in_ok-put_records.ensures.room told)))
