@@ -20,13 +20,14 @@ use Rattle.connection_view.specs.declared.connection.Connection.{Connection}
 use Rattle.connection_view.specs.Works.{Work}
 use Rattle.connection_view.specs.Connections.{IsCallMade, IsFrontBy, IsPutAsRead, IsReadBy, LeavesWork, begin_refusal, changeable, checked_in_work, deleted_in_work, followed_by, rolled_back, rolled_back_to, saved, stored_in_work, unmixed, waiting_read, work_of}
 use Rattle.connection_view.specs.Loading.{Abort, Finish, LoadsCall, Undo, Vote}
-use Rattle.connection_view.specs.Views.{Server}
+use Rattle.connection_view.specs.Views.{Server, View}
 use Rattle.connection_view.specs.Views as views
 use Rattle.local_loads.specs.Local.{LocalState}
 use Rattle.local_loads.specs.Making.{IsHubStep, IsLocalCall}
 use Rattle.client_turns.specs.declared.client.Client.{Client}
 use Rattle.client_turns.specs.declared.member.Member.{Member}
 use Rattle.client_turns.specs.declared.member.Member.TheVariants.{Near}
+use Rattle.client_turns.specs.Calls.{Calls, CallsLine, is_made, is_unmade}
 use Rattle.client_turns.specs.Asking.{IsCalm, answered, begun_as, delivered_with, finished_as, saved_as}
 use Rattle.client_turns.specs.Lines.{data_of, object_of, outcome_of_answer, outcome_of_read, outcome_of_result}
 use Rattle.client_turns.specs.Standing.{LeavesHub, ReadsHub}
@@ -75,6 +76,12 @@ rolled_refused w number None r is = inl (sym (ap refused_as is))
 
 pub rolled_calm : (number : ℕ) (w : Work) (r : Refusal) → rolled_back number w ≡ Err r → IsCalm (outcome_of_refusal r)
 rolled_calm number w r is = rolled_refused w number (slice_get w.savepoints number) r is
+
+-- `get`
+pub get_framed : {R F : Type 0} (told lasts : Type 0) (stands : List ℕ → List Transaction → Type 0) (rules : Rules) (h g : HubState R F) (x : Option Member) (oid : ℕ) (result : Result (ℕ × List ℕ) Refusal) → ReadsHub told lasts stands (outcome_of_result result) h g → (reply : Answer) → reply ≡ object_of result
+    → LeavesHub told lasts stands rules x (line.Get oid) (outcome_of_answer reply) h g
+get_framed told lasts stands rules h g x oid result reads reply answers =
+    (subst (λ (z : StepOutcome). ReadsHub told lasts stands z h g) (result_outcome result ∙ sym (object_outcome result) ∙ sym (ap outcome_of_answer answers)) reads).keeps
 
 -- ---- the lines
 
@@ -204,11 +211,30 @@ module _ {R F S : Type 0} (told lasts : Type 0) (stands : List ℕ → List Tran
   abort_framed result refused made reply answers =
       over line.Abort (outcome_of_answer reply) (abort_hub told lasts stands rules_in named_in (number a) x (state a) (state b) Made a b (λ call make. make) (λ e. ap state e) x.connection result reply refused made answers)
 
--- `get`
-pub get_framed : {R F : Type 0} (told lasts : Type 0) (stands : List ℕ → List Transaction → Type 0) (rules : Rules) (h g : HubState R F) (x : Option Member) (oid : ℕ) (result : Result (ℕ × List ℕ) Refusal) → ReadsHub told lasts stands (outcome_of_result result) h g → (reply : Answer) → reply ≡ object_of result
-    → LeavesHub told lasts stands rules x (line.Get oid) (outcome_of_answer reply) h g
-get_framed told lasts stands rules h g x oid result reads reply answers =
-    (subst (λ (z : StepOutcome). ReadsHub told lasts stands z h g) (result_outcome result ∙ sym (object_outcome result) ∙ sym (ap outcome_of_answer answers)) reads).keeps
+  -- ---- any line
+
+  module _ (here : S → views.Client → Type 0) (fresh : S → views.Client → View) (server : S → Server) (session : x.session ≡ number a) where
+    made_framed : (asked : Line) (reply : Answer) → Calls here fresh Made server x.connection a asked reply l b → LeavesHub told lasts stands (rules_of rules_in named_in h) (Some (Near x)) asked (outcome_of_answer reply) h g
+    made_framed line.Begin reply o = begin_framed o.result o.refused o.makes reply o.answer
+    made_framed (line.Load oid) reply (result, is, o) = load_framed oid result o.refused o.makes reply is
+    made_framed (line.Get oid) reply (result, is, o) =
+        get_framed told lasts stands (rules_of rules_in named_in h) h g (Some (Near x)) oid result (got_framed oid result o.waiting o.refused o.makes (outcome_of_result result) (result_outcome result)) reply is
+    made_framed (line.Store oid base bytes) reply o = store_framed oid base bytes o.result o.leaves o.kept reply o.answer
+    made_framed (line.Put oid bytes) reply o = put_framed (here a) (server a) oid bytes o.result o.waiting o.reads o.refused reply o.answer
+    made_framed (line.Check oid serial) reply o = check_framed oid serial o.result o.leaves o.kept reply o.answer
+    made_framed (line.Delete oid base) reply o = delete_framed oid base o.result o.leaves o.kept reply o.answer
+    made_framed line.Savepoint reply o = save_framed o.change.result o.change.leaves o.change.kept reply o.change.answer
+    made_framed (line.Rollback n) reply o = roll_framed n o.result o.leaves o.kept reply o.answer
+    made_framed (line.Vote user description) reply o = vote_framed user description o.result o.refused o.makes reply o.answer
+    made_framed (line.Undo user description tids) reply o = undo_framed user description tids o.result o.refused o.makes reply o.answer
+    made_framed line.Finish reply o = finish_framed session o.result o.refused o.makes reply o.answer
+    made_framed line.Abort reply o = abort_framed o.result o.refused o.makes reply o.answer
+    made_framed line.Deliver reply o = deliver_framed o.result o.refused o.makes reply o.answer
+    made_framed _ reply o = absurd o
+
+    pub line_framed : (asked : Line) (reply : Answer) → CallsLine here fresh Made server x.connection a asked reply l b → LeavesHub told lasts stands (rules_of rules_in named_in h) (Some (Near x)) asked (outcome_of_answer reply) h g
+    line_framed asked reply (is_unmade answers same kept) = none_leaves told lasts stands (rules_of rules_in named_in h) h g (Some (Near x)) asked (outcome_of_answer reply) (inr (ap outcome_of_answer answers)) (kept_framed kept)
+    line_framed asked reply (is_made o) = made_framed asked reply o
 
 -- a line for which there was no memory
 pub starved_leaves : {R F : Type 0} (told lasts : Type 0) (stands : List ℕ → List Transaction → Type 0) (rules : Rules) (x : Option Member) (l : Line) (h : HubState R F) → LeavesHub told lasts stands rules x l NoMemory h h

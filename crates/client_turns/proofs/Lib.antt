@@ -59,5 +59,6 @@ mod LinkReadHub
 mod LinkReading
 mod LinkReads
 mod LinkVotes
+mod Called
 mod OverCalls
 mod OverReads

@@ -16,6 +16,7 @@ use Rattle.zb_script.specs.declared.line.Line.TheVariants as line
 use Rattle.commit_phases.specs.Pending.{pending_of}
 use Rattle.zodb_core.specs.HubState.{HubState, rules_of}
 use Rattle.zodb_core.specs.Machine.{Rules}
+use Rattle.connection_view.specs.declared.connection.Connection.{Connection}
 use Rattle.connection_view.specs.Works.{Work}
 use Rattle.connection_view.specs.Connections.{Between, InView, IsCallMade, IsFrontBy, IsNewWork, IsPutAsRead, IsReadBy, LeavesWork, begin_refusal, changeable, checked_in_work, deleted_in_work, followed_by, rolled_back, saved, stored_in_work, unmixed, work_of, waiting_read}
 use Rattle.connection_view.specs.Loading.{Abort, Finish, LoadsCall, Reads, Undo, Vote}
@@ -27,10 +28,11 @@ use Rattle.local_loads.specs.Local.{LocalState, MayBeTold}
 use Rattle.local_loads.specs.Making.{IsHubStep, IsLocalCall}
 use Rattle.client_turns.specs.declared.client.Client.{Client}
 use Rattle.client_turns.specs.Asking.{TakesLine, TakesRead, answered, begun_as, delivered_with, finished_as, saved_as}
+use Rattle.client_turns.specs.Calls.{Calls, CallsLine, is_made, is_unmade}
 use Rattle.client_turns.specs.Clients.{Changes}
 use Rattle.client_turns.specs.Lines.{Changed, data_of}
-use Rattle.client_turns.specs.Standing.{IsGotWhere, changes_kept}
-use Rattle.client_turns.proofs.Asked.{end_of_client, get_leads, load_leads}
+use Rattle.client_turns.specs.Standing.{IsClientOf, IsGotWhere, changes_kept}
+use Rattle.client_turns.proofs.Asked.{end_of_client, get_answered, get_leads, load_leads}
 use Rattle.client_turns.proofs.Changing.{AgreesAs, IsChanging, change_leads, check_changes, checked_agrees, delete_changes, deleted_agrees, roll_changes, rolled_agrees, rolled_done, save_changes, saved_agrees, store_changes, stored_agrees, stored_done}
 use Rattle.client_turns.proofs.Ending.{abort_leads, begin_leads, deliver_leads, finish_leads, undo_leads, vote_leads}
 use Rattle.client_turns.proofs.One.{starved_open, stays}
@@ -42,6 +44,13 @@ state_is {R} {F} h k s t l o hub stamps last =
     ap (λ (z : HubState R F). let p : LocalState R F = record { hub = z; stamps = s; last = l } in p) hub
     ∙ ap (λ (z : Option (List Stamp)). let p : LocalState R F = record { hub = k; stamps = z; last = l } in p) stamps
     ∙ ap (λ (z : Option Told). let p : LocalState R F = record { hub = k; stamps = t; last = z } in p) last
+
+pub client_is : (k c : Client) → k.name ≡ c.name → k.session ≡ c.session → k.told ≡ c.told → k.connection ≡ c.connection → k ≡ c
+client_is k c name session told connection =
+    ap (λ (z : List ℕ). let w : Client = record { name = z; session = k.session; told = k.told; connection = k.connection } in w) name
+    ∙ ap (λ (z : ℕ). let w : Client = record { name = c.name; session = z; told = k.told; connection = k.connection } in w) session
+    ∙ ap (λ (z : Option Told). let w : Client = record { name = c.name; session = c.session; told = z; connection = k.connection } in w) told
+    ∙ ap (λ (z : Connection). let w : Client = record { name = c.name; session = c.session; told = c.told; connection = z } in w) connection
 
 module _ {R F S : Type 0} (told lasts : Type 0) (stands : List ℕ → List Transaction → Type 0) (rules_in : R → MergeRules) (named_in : F → List ℕ → Option (List ℕ)) (x y : Client) (h g : HubState R F) (before after : Option (List Stamp)) (state : S → LocalState R F) (number : S → ℕ) (a b : S) (numbered : number a ≡ x.session) (begins : state a ≡ end_of_client h before x) (ends : state b ≡ end_of_client g after y) (name : y.name ≡ x.name) (session : y.session ≡ x.session) where
   -- calls from one state to another
@@ -237,11 +246,33 @@ module _ {R F S : Type 0} (told lasts : Type 0) (stands : List ℕ → List Tran
       (subst (λ (s : LocalState R F). OnOk result ((v : views.Client) → At s v → Stands b (renewed (view_of (local.server_of s.hub)) v))) begins be))
       made work err reply answers
 
--- a line for which there was no memory
-pub starved_takes : {R F : Type 0} (told : Type 0) (rules : Rules) (l : Line) (h : HubState R F) (x : Client) (stamps : Option (List Stamp)) → TakesLine told rules l (answer.Refused refusal.Memory) h h x x stamps stamps
-starved_takes told rules l h x stamps tells m at c takes =
-    stays _ m at h h x x c stamps stamps takes refl refl takes.stands.client (starved_open rules m at c l (answer.Refused refusal.Memory) m refl refl)
+  -- ---- any line
 
--- the same line by another name
-pub line_at : {R F : Type 0} (told : Type 0) (rules : Rules) (l k : Line) (a : Answer) (h g : HubState R F) (x y : Client) (before after : Option (List Stamp)) → l ≡ k → TakesLine told rules k a h g x y before after → TakesLine told rules l a h g x y before after
-line_at told rules l k a h g x y before after is takes = subst (λ (z : Line). TakesLine told rules z a h g x y before after) (sym is) takes
+  abbrev pub LineHere : Line → Answer → Type 0
+  LineHere l reply = CallsLine Stands (λ s v. view_of (local.server_of (state s).hub)) Makes (λ s. local.server_of (state s).hub) x.connection a l reply y.connection b
+
+  made_over : (l : Line) (reply : Answer) → Calls Stands (λ s v. view_of (local.server_of (state s).hub)) Makes (λ s. local.server_of (state s).hub) x.connection a l reply y.connection b → TakesLine told (rules_of rules_in named_in h) l reply h g x y before after
+  made_over line.Begin reply o = begin_over o.result o.begun o.view o.stands o.refused o.makes o.err reply o.answer
+  made_over (line.Load oid) reply (result, is, o) = load_over oid result o.reads o.refused o.makes o.work o.view o.between reply is
+  made_over (line.Get oid) reply (result, is, o) = λ tells m at c takes.
+      get_answered (rules_of rules_in named_in h) m at oid c result reply h g y after is (get_over oid result o.waiting o.reads o.refused o.makes o.work o.view o.between tells m at c takes)
+  made_over (line.Store oid base bytes) reply o = store_over oid base bytes o.result o.leaves o.kept o.view o.between reply o.answer
+  made_over (line.Put oid bytes) reply o = put_over oid bytes o.result o.waiting o.reads o.refused o.view o.between reply o.answer
+  made_over (line.Check oid serial) reply o = check_over oid serial o.result o.leaves o.kept o.view o.between reply o.answer
+  made_over (line.Delete oid base) reply o = delete_over oid base o.result o.leaves o.kept o.view o.between reply o.answer
+  made_over line.Savepoint reply o = save_over o.change.result o.number o.change.leaves o.change.kept o.change.view o.change.between reply o.change.answer
+  made_over (line.Rollback number) reply o = roll_over number o.result o.leaves o.kept o.view o.between reply o.answer
+  made_over (line.Vote user description) reply o = vote_over user description o.result o.voted o.err o.view o.refused o.makes reply o.answer
+  made_over (line.Undo user description tids) reply o = undo_over user description tids o.result o.voted o.err o.view o.refused o.makes reply o.answer
+  made_over line.Finish reply o = finish_over o.result o.ended o.left o.refused o.makes o.err reply o.answer
+  made_over line.Abort reply o = abort_over o.result o.ended o.dropped o.refused o.makes o.err reply o.answer
+  made_over line.Deliver reply o = deliver_over o.result o.view o.between o.stands o.makes o.work o.err reply o.answer
+  made_over _ reply o = absurd o
+
+  pub line_over : (l : Line) (reply : Answer) → LineHere l reply → TakesLine told (rules_of rules_in named_in h) l reply h g x y before after
+  line_over l reply (is_unmade answers same kept) = λ tells m at c takes.
+      let stay : end_of_client g after y ≡ end_of_client h before x = same_over kept in
+      let client : y ≡ x = client_is y x name session (ap (λ (s : LocalState R F). s.last) stay) same in
+      stays _ m at h g x y c before after takes (ap (λ (s : LocalState R F). s.hub) stay) (ap (λ (s : LocalState R F). s.stamps) stay)
+      (subst (λ (z : Client). IsClientOf h z c) (sym client) takes.stands.client) (starved_open (rules_of rules_in named_in h) m at c l reply m answers refl)
+  line_over l reply (is_made o) = made_over l reply o

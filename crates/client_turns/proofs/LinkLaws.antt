@@ -30,7 +30,8 @@ use Rattle.client_turns.specs.Asking.{answered, saved_as}
 use Rattle.client_turns.specs.Lines as lines
 use Rattle.client_turns.specs.Lines.{Changed, end_of}
 use Rattle.client_turns.specs.Linked.{LinkLeadsTo, LinkedEnds, TakesLinked}
-use Rattle.client_turns.specs.OverCarrier.{AbortOver, BeginOver, ChangeOver, DeliverOver, FinishOver, HearsAt, MakesAt, SaveOver, ToldOver, done_as, heard, unheard}
+use Rattle.client_turns.specs.Calls.{done_as}
+use Rattle.client_turns.specs.OverCarrier.{AbortOver, BeginOver, ChangeOver, DeliverOver, FinishOver, HearsAt, MakesAt, SaveOver, ToldOver, heard, unheard}
 use Rattle.client_turns.specs.Clients.{Changes}
 use Rattle.client_turns.specs.Settling.{settled}
 use Rattle.client_turns.specs.Standing.{IsLineOpen, changes_kept}

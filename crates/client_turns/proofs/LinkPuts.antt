@@ -34,7 +34,8 @@ use Rattle.client_turns.specs.Clients as seen
 use Rattle.client_turns.specs.Lines as lines
 use Rattle.client_turns.specs.Lines.{Changed, end_of, request_of, unchanged, with_changes}
 use Rattle.client_turns.specs.Linked.{IsLinkedOpen, IsLinkedWork, LinkedEnds, LinkedLeadsTo, MayTakeLinked, StandsForHub, TakesLinked}
-use Rattle.client_turns.specs.OverCarrier.{ChangeOver, FittingOver, LinkAt, MayChangeOver, PutOver, done_as, fitting, is_fitting, link_at, put_read, put_refused, put_unread}
+use Rattle.client_turns.specs.Calls.{done_as}
+use Rattle.client_turns.specs.OverCarrier.{ChangeOver, FittingOver, LinkAt, MayChangeOver, PutOver, fitting, is_fitting, link_at, put_read, put_refused, put_unread}
 use Rattle.client_turns.specs.Refusing.{line_refusal}
 use Rattle.client_turns.specs.Settling.{calm, calm_answer, calm_result, settled, settled_result}
 use Rattle.client_turns.specs.Standing.{IsGotAs, IsGotWhere, IsLineOpen, changes_kept, with_kept}

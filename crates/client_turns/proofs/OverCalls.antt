@@ -1,11 +1,12 @@
 -- What a call of a connection promises over loads is what it leaves over a carrier, by the ends of the link.
-use Rattle.std.proofs.Common.{◌≡◌, ◌≢◌, ◌⊎◌, ◌≤◌, ℕ, Bool, Option, Some, None, Result, Ok, Err, refl, sym, ap, subst, ◌∙◌, inl, inr}
+use Rattle.std.proofs.Common.{◌≡◌, ◌≢◌, ◌⊎◌, ◌≤◌, ℕ, Bool, true, Option, Some, None, Result, Ok, Err, refl, sym, ap, subst, ◌∙◌, inl, inr}
 use Rattle.std.specs.Prelude.{IfErr, IfOk, MatchOption, OnErr, OnOk, length}
 use Rattle.zb_model.specs.declared.refusal.Refusal.{Refusal}
 use Rattle.zb_model.specs.declared.refusal.Refusal.TheVariants as refusal
 use Rattle.zb_answers.specs.declared.answer.Answer.{Answer}
 use Rattle.zb_answers.specs.declared.answer.Answer.TheVariants as answer
 use Rattle.zb_script.specs.declared.line.Line.{Line}
+use Rattle.zb_script.specs.declared.line.Line.TheVariants as line
 use Rattle.zodb_core.specs.declared.reply.Reply.{Reply}
 use Rattle.zodb_core.specs.declared.request.Request.{Request}
 use Rattle.zodb_core.specs.Machine.{Machine}
@@ -18,7 +19,8 @@ use Rattle.connection_view.specs.Views.{Client, View, committed, renewed, unvote
 use Rattle.remote_loads.specs.Causes.{HasLinkCause, IsCallCaused}
 use Rattle.zeo_client.specs.Taking.{ClientState}
 use Rattle.zeo_desk.specs.Desks.{DeskState}
-use Rattle.client_turns.specs.Asking.{answered, begun_as, delivered_with, finished_as, saved_as}
+use Rattle.client_turns.specs.Asking.{delivered_with, is_plain_call, saved_as}
+use Rattle.client_turns.specs.Calls as lines
 use Rattle.client_turns.specs.OverCarrier.{AbortOver, BeginOver, CalledOver, ChangeOver, DeliverOver, FinishOver, HearsAt, LineOver, LinkAt, MakesAt, MayBeAt, SaveOver, ToldOver, called, heard, link_at, server_there, uncalled, unheard}
 
 -- Over a carrier of which this is known, by what loads over it have: the carrier, and the client at this end.
@@ -40,67 +42,57 @@ module _ {S W E : Type 0} (carrier : S → W) (client : S → ClientState) (faul
     kept_at : b ≡ a → ends b ≡ ends a
     kept_at is = ap ends is
 
-    pub begin_called : (result : Result ℕ Refusal) → IfOk result (λ front. (v : Client) → Here a v → front ≡ v.known.front) → IfOk result (λ front. (w : Work) × (work_of y ≡ Ok w) × IsNewWork front w)
-        → OnOk result ((v : Client) → Here a v → Between x v → InView y v.known (renewed v.known v)) → OnOk result ((v : Client) → Here a v → Here b (renewed v.known v))
-        → ((r : Refusal) → begin_refusal (work_of x) ≡ Some r → (result ≡ Err r) × (b ≡ a)) → (begin_refusal (work_of x) ≡ None → IsFrontBy Calls a b result) → OnErr result (y ≡ x) → (reply : Answer) → reply ≡ begun_as result
-        → BeginOver told steps machine x (ends a) reply y (ends b)
-    begin_called result front begun view stands refused make err reply is = record {
-      result = result;
-      answer = is;
-      front = front;
-      begun = begun;
-      view = view;
-      stands = stands;
-      refused = λ r why. let so = refused r why in (so.0, kept_at so.1);
-      makes = λ free. front_by a b result (make free);
-      err = err;
-    }
+    -- what a plain line leaves
+    abbrev Made : Line → Answer → Type 0
+    Made l reply = lines.Calls Here (λ s v. v.known) Calls (λ s. server_there told steps machine (ends s)) x a l reply y b
 
-    pub change_called : {T : Type 0} → (f : Work → Result Work Refusal) (said : Result T Refusal → Answer) (result : Result T Refusal) → LeavesWork (followed_by (changeable (work_of x)) f) (work_of x) (work_of y) result
-        → ((u : View) (v : Client) → InView x u v → InView y u v) → ((v : Client) → Between x v → Between y v) → b ≡ a → (reply : Answer) → reply ≡ said result → ChangeOver told steps machine x (ends a) f said reply y (ends b)
-    change_called f said result leaves view between kept reply is = record {
-      result = result;
-      answer = is;
-      leaves = leaves;
-      kept = kept_at kept;
-      view = view;
-      between = between;
-    }
+    change_called : {T : Type 0} → (f : Work → Result Work Refusal) (said : Result T Refusal → Answer) (reply : Answer) → lines.CallsChange Here (λ s v. v.known) Calls (λ s. server_there told steps machine (ends s)) x a f said reply y b
+        → ChangeOver told steps machine x (ends a) f said reply y (ends b)
+    change_called f said reply o = record { result = o.result; answer = o.answer; leaves = o.leaves; kept = kept_at o.kept; view = o.view; between = o.between }
 
-    pub save_called : (result : Result ℕ Refusal) → IfOk result (λ number. (w : Work) → work_of x ≡ Ok w → number ≡ length w.savepoints) → LeavesWork (followed_by (changeable (work_of x)) saved) (work_of x) (work_of y) result
-        → ((u : View) (v : Client) → InView x u v → InView y u v) → ((v : Client) → Between x v → Between y v) → b ≡ a → (reply : Answer) → reply ≡ saved_as result → SaveOver told steps machine x (ends a) reply y (ends b)
+    pub plain_called : (l : Line) (reply : Answer) → is_plain_call l ≡ true → Made l reply → CalledOver told steps machine l x (ends a) reply y (ends b)
     unfolding change_called
-    save_called result number leaves view between kept reply is = record { change = change_called saved saved_as result leaves view between kept reply is; number = number }
-
-    pub finish_called : (result : Result (Option ℕ) Refusal) → OnOk result (work_of y ≡ Err refusal.NoTransaction)
-        → IfOk result (λ tid. MatchOption tid ((u : View) (v : Client) → Here a v → InView x u v → (Here b (unvoted v)) × (Between y (unvoted v)))
-        (λ tid. (u : View) (v : Client) → Here a v → InView x u v → (Here b (committed (view_of (server_there told steps machine (ends b))) v)) × (Between y (committed (view_of (server_there told steps machine (ends b))) v))))
-        → ((r : Refusal) → work_of x ≡ Err r → (result ≡ Err r) × (b ≡ a)) → ((w : Work) → work_of x ≡ Ok w → Calls a (Finish result) b) → OnErr result (y ≡ x) → IfErr result (λ r. IsNothingDone r → (v : Client) → Here a v → Here b v)
-        → (reply : Answer) → reply ≡ finished_as result → FinishOver told steps machine x (ends a) reply y (ends b)
-    finish_called result ended left refused make err same reply is = record {
-      result = result;
-      answer = is;
-      ended = ended;
-      left = left;
-      refused = λ r why. let so = refused r why in (so.0, kept_at so.1);
-      makes = λ w works. (make w works).3;
-      err = err;
-      same = same;
+    plain_called line.Begin reply plain o = record {
+      result = o.result;
+      answer = o.answer;
+      front = o.front;
+      begun = o.begun;
+      view = o.view;
+      stands = o.stands;
+      refused = λ r why. let so = o.refused r why in (so.0, kept_at so.1);
+      makes = λ free. front_by a b o.result (o.makes free);
+      err = o.err;
     }
-
-    pub abort_called : (result : Result (Unit {0}) Refusal) → OnOk result (work_of y ≡ Err refusal.NoTransaction) → OnOk result ((u : View) (v : Client) → Here a v → InView x u v → (Here b (unvoted v)) × (Between y (unvoted v)))
-        → ((r : Refusal) → work_of x ≡ Err r → (result ≡ Err r) × (b ≡ a)) → ((w : Work) → work_of x ≡ Ok w → Calls a (Abort result) b) → OnErr result (y ≡ x) → OnErr result ((v : Client) → Here a v → Here b v)
-        → (reply : Answer) → reply ≡ answered result answer.Aborted → AbortOver told steps machine x (ends a) reply y (ends b)
-    abort_called result ended dropped refused make err same reply is = record {
-      result = result;
-      answer = is;
-      ended = ended;
-      dropped = dropped;
-      refused = λ r why. let so = refused r why in (so.0, kept_at so.1);
-      makes = λ w works. (make w works).3;
-      err = err;
-      same = same;
+    plain_called (line.Store oid base bytes) reply plain o = change_called _ _ reply o
+    plain_called (line.Check oid serial) reply plain o = change_called _ _ reply o
+    plain_called (line.Delete oid base) reply plain o = change_called _ _ reply o
+    plain_called line.Savepoint reply plain o = record { change = change_called saved saved_as reply o.change; number = o.number }
+    plain_called (line.Rollback number) reply plain o = change_called _ _ reply o
+    plain_called line.Finish reply plain o = record {
+      result = o.result;
+      answer = o.answer;
+      ended = o.ended;
+      left = o.left;
+      refused = λ r why. let so = o.refused r why in (so.0, kept_at so.1);
+      makes = λ w works. (o.makes w works).3;
+      err = o.err;
+      same = o.same;
     }
+    plain_called line.Abort reply plain o = record {
+      result = o.result;
+      answer = o.answer;
+      ended = o.ended;
+      dropped = o.dropped;
+      refused = λ r why. let so = o.refused r why in (so.0, kept_at so.1);
+      makes = λ w works. (o.makes w works).3;
+      err = o.err;
+      same = o.same;
+    }
+    plain_called _ reply plain o = absurd cc
+
+    pub plain_line : (l : Line) (reply : Answer) → is_plain_call l ≡ true → lines.CallsLine Here (λ s v. v.known) Calls (λ s. server_there told steps machine (ends s)) x a l reply y b → LineOver told steps machine l x (ends a) reply y (ends b)
+    plain_line l reply plain (lines.is_unmade answers same kept) = uncalled answers same (kept_at kept)
+    plain_line l reply plain (lines.is_made o) = called (plain_called l reply plain o)
 
     pub told_called : (result : Result ℕ Refusal) → IfOk result (λ front. (v : Client) → Here a v → front ≡ v.known.front) → OnOk result ((u : View) (v : Client) → Here a v → InView x u v → InView y u (renewed v.known v))
         → OnOk result ((v : Client) → Here a v → Between x v → Between y (renewed v.known v)) → OnOk result ((v : Client) → Here a v → Here b (renewed v.known v)) → (work_of x ≡ Err refusal.NotOpen → (result ≡ Err refusal.NotOpen) × (b ≡ a))
@@ -169,6 +161,21 @@ module _ {S W E : Type 0} (carrier : S → W) (client : S → ClientState) (faul
             other : (let z : Result Work Refusal = Ok w in z) ≡ Err refusal.NotOpen → ⊥
             other e = absurd cc
         by_work (Err r) is = by_refusal r is (unopened x r is)
+
+    later_of : (x y : Connection) (l : Line) (reply : Answer) → is_plain_call l ≡ true → lines.Calls Here (λ s v. v.known) Calls (λ s. server_there told steps machine (ends s)) x a l reply y b → Later
+    later_of x y line.Begin reply plain o = begin_later x o.result o.refused o.makes
+    later_of x y (line.Store oid base bytes) reply plain o = same_later o.kept
+    later_of x y (line.Check oid serial) reply plain o = same_later o.kept
+    later_of x y (line.Delete oid base) reply plain o = same_later o.kept
+    later_of x y line.Savepoint reply plain o = same_later o.change.kept
+    later_of x y (line.Rollback number) reply plain o = same_later o.kept
+    later_of x y line.Finish reply plain o = call_later (work_of x) (Finish o.result) o.result o.refused o.makes
+    later_of x y line.Abort reply plain o = call_later (work_of x) (Abort o.result) o.result o.refused o.makes
+    later_of x y _ reply plain o = absurd cc
+
+    pub plain_later : (x y : Connection) (l : Line) (reply : Answer) → is_plain_call l ≡ true → lines.CallsLine Here (λ s v. v.known) Calls (λ s. server_there told steps machine (ends s)) x a l reply y b → Later
+    plain_later x y l reply plain (lines.is_unmade answers same kept) = same_later kept
+    plain_later x y l reply plain (lines.is_made o) = later_of x y l reply plain o
 
 -- ---- any line
 

@@ -46,6 +46,18 @@ is_of_connection line.Abort = true
 is_of_connection line.Deliver = true
 is_of_connection _ = false
 
+-- one that is answered as the call of its connection is, whatever the link
+abbrev pub is_plain_call : Line → Bool
+is_plain_call line.Begin = true
+is_plain_call (line.Store oid base bytes) = true
+is_plain_call (line.Check oid serial) = true
+is_plain_call (line.Delete oid base) = true
+is_plain_call line.Savepoint = true
+is_plain_call (line.Rollback number) = true
+is_plain_call line.Finish = true
+is_plain_call line.Abort = true
+is_plain_call _ = false
+
 -- a line that asks nothing of the connection, and whose answer comes in a message over a link
 abbrev pub is_question_line : Line → Bool
 is_question_line line.New = true

@@ -22,6 +22,7 @@ pub mod TurnLaws
 pub mod CountLaws
 pub mod Waiting
 pub mod Settling
+pub mod Calls
 pub mod OverCarrier
 pub mod Linked
 pub mod Joining

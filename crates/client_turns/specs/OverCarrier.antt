@@ -25,7 +25,8 @@ use Rattle.zeo_serving.specs.Serving.{server_at}
 use Rattle.remote_loads.specs.Leaving.{SyncLeaves}
 use Rattle.remote_loads.specs.Relating.{IsCallMade}
 use Rattle.remote_loads.specs.Standing.{Stands}
-use Rattle.client_turns.specs.Asking.{answered, begun_as, delivered_with, finished_as, saved_as}
+use Rattle.client_turns.specs.Asking.{answered}
+use Rattle.client_turns.specs.Calls.{CallsAbort, CallsBegin, CallsChange, CallsDeliver, CallsFinish, CallsGet, CallsRead, CallsSave, CallsUndo, CallsVote, done_as}
 use Rattle.client_turns.specs.Lines.{data_of, object_of}
 
 -- ---- both ends of a link
@@ -39,10 +40,6 @@ pub record LinkAt (E : Type 0) : Type 0 where
 
 abbrev pub link_at : {E : Type 0} → E → ℕ → DeskState → ClientState → LinkAt E
 link_at there session desk client = record { there = there; session = session; desk = desk; client = client }
-
--- what is answered of a change that gives nothing
-abbrev pub done_as : Answer → Result (Unit {0}) Refusal → Answer
-done_as a r = answered r a
 
 -- ---- what was read
 
@@ -63,6 +60,10 @@ abbrev pub heard_of : Result (Unit {0}) Refusal → Result (Unit {0}) Refusal
 heard_of (Err refusal.BadMessage) = Err refusal.Memory
 heard_of r = r
 
+-- what is answered of one
+abbrev pub heard_as : Result (Unit {0}) Refusal → Answer
+heard_as r = answered (heard_of r) answer.Voted
+
 module _ {E : Type 0} (told : Type 0) (steps : ℕ → Request → Reply → E → E → Type 0) (machine : E → Machine) where
   -- the client that may be at this link
   abbrev pub MayBeAt : LinkAt E → Client → Type 0
@@ -82,109 +83,45 @@ module _ {E : Type 0} (told : Type 0) (steps : ℕ → Request → Reply → E �
 
   -- ---- calls of a connection, from these ends to those
 
+  -- what a front gives to a client at this link: the view that it knows
+  abbrev pub known_view : LinkAt E → Client → View
+  known_view l v = v.known
+
+  abbrev pub BeginOver : Connection → LinkAt E → Answer → Connection → LinkAt E → Type 0
+  BeginOver x a reply y b = CallsBegin MayBeAt known_view MakesAt server_there x a reply y b
+
+  abbrev pub ChangeOver : {T : Type 0} → Connection → LinkAt E → (Work → Result Work Refusal) → (Result T Refusal → Answer) → Answer → Connection → LinkAt E → Type 0
+  ChangeOver x a f said reply y b = CallsChange MayBeAt known_view MakesAt server_there x a f said reply y b
+
+  abbrev pub SaveOver : Connection → LinkAt E → Answer → Connection → LinkAt E → Type 0
+  SaveOver x a reply y b = CallsSave MayBeAt known_view MakesAt server_there x a reply y b
+
+  abbrev pub FinishOver : Connection → LinkAt E → Answer → Connection → LinkAt E → Type 0
+  FinishOver x a reply y b = CallsFinish MayBeAt known_view MakesAt server_there x a reply y b
+
+  abbrev pub AbortOver : Connection → LinkAt E → Answer → Connection → LinkAt E → Type 0
+  AbortOver x a reply y b = CallsAbort MayBeAt known_view MakesAt server_there x a reply y b
+
+  -- the connection is told what its client knows
+  abbrev pub ToldOver : Connection → LinkAt E → Answer → Connection → LinkAt E → Type 0
+  ToldOver x a reply y b = CallsDeliver MayBeAt known_view MakesAt server_there x a reply y b
+
+  abbrev pub VoteOver : Connection → LinkAt E → List ℕ → List ℕ → Answer → Connection → LinkAt E → Type 0
+  VoteOver x a user description reply y b = CallsVote MayBeAt known_view MakesAt server_there x a user description heard_as reply y b
+
+  abbrev pub UndoOver : Connection → LinkAt E → List ℕ → List ℕ → List ℕ → Answer → Connection → LinkAt E → Type 0
+  UndoOver x a user description tids reply y b = CallsUndo MayBeAt known_view MakesAt server_there x a user description tids heard_as reply y b
+
+  abbrev pub ReadOver : Connection → LinkAt E → ℕ → Result (ℕ × List ℕ) Refusal → Connection → LinkAt E → Type 0
+  ReadOver x a oid result y b = CallsRead MayBeAt known_view MakesAt server_there x a oid result y b
+
+  abbrev pub GotOver : Connection → LinkAt E → ℕ → Result (ℕ × List ℕ) Refusal → Connection → LinkAt E → Type 0
+  GotOver x a oid result y b = CallsGet MayBeAt known_view MakesAt server_there x a oid result y b
+
   module _ (x : Connection) (a : LinkAt E) where
-    pub record BeginOver (reply : Answer) (y : Connection) (b : LinkAt E) : Type 0 where
-      pub result : Result ℕ Refusal
-      pub answer : reply ≡ begun_as result
-      pub front : IfOk result (λ front. (v : Client) → MayBeAt a v → front ≡ v.known.front)
-      pub begun : IfOk result (λ front. (w : Work) × (work_of y ≡ Ok w) × IsNewWork front w)
-      pub view : OnOk result ((v : Client) → MayBeAt a v → Between x v → InView y v.known (renewed v.known v))
-      pub stands : OnOk result ((v : Client) → MayBeAt a v → MayBeAt b (renewed v.known v))
-      pub refused : (r : Refusal) → begin_refusal (work_of x) ≡ Some r → (result ≡ Err r) × (b ≡ a)
-      pub makes : begin_refusal (work_of x) ≡ None → IsFrontBy MakesAt a b result
-      pub err : OnErr result (y ≡ x)
-
-    -- a change, for which no call is made: what the transaction becomes by it, and what is answered
-    pub record ChangeOver {T : Type 0} (f : Work → Result Work Refusal) (said : Result T Refusal → Answer) (reply : Answer) (y : Connection) (b : LinkAt E) : Type 0 where
-      pub result : Result T Refusal
-      pub answer : reply ≡ said result
-      pub leaves : LeavesWork (followed_by (changeable (work_of x)) f) (work_of x) (work_of y) result
-      pub kept : b ≡ a
-      pub view : (u : View) (v : Client) → InView x u v → InView y u v
-      pub between : (v : Client) → Between x v → Between y v
-
-    -- a savepoint has the next number
-    pub record SaveOver (reply : Answer) (y : Connection) (b : LinkAt E) : Type 0 where
-      pub change : ChangeOver saved saved_as reply y b
-      pub number : IfOk change.result (λ number. (w : Work) → work_of x ≡ Ok w → number ≡ length w.savepoints)
-
-    pub record FinishOver (reply : Answer) (y : Connection) (b : LinkAt E) : Type 0 where
-      pub result : Result (Option ℕ) Refusal
-      pub answer : reply ≡ finished_as result
-      pub ended : OnOk result (work_of y ≡ Err refusal.NoTransaction)
-      pub left : IfOk result (λ tid. MatchOption tid ((u : View) (v : Client) → MayBeAt a v → InView x u v → (MayBeAt b (unvoted v)) × (Between y (unvoted v)))
-          (λ tid. (u : View) (v : Client) → MayBeAt a v → InView x u v → (MayBeAt b (committed (view_of (server_there b)) v)) × (Between y (committed (view_of (server_there b)) v))))
-      pub refused : (r : Refusal) → work_of x ≡ Err r → (result ≡ Err r) × (b ≡ a)
-      pub makes : (w : Work) → work_of x ≡ Ok w → MakesAt a (Finish result) b
-      pub err : OnErr result (y ≡ x)
-      pub same : IfErr result (λ r. IsNothingDone r → (v : Client) → MayBeAt a v → MayBeAt b v)
-
-    pub record AbortOver (reply : Answer) (y : Connection) (b : LinkAt E) : Type 0 where
-      pub result : Result (Unit {0}) Refusal
-      pub answer : reply ≡ answered result answer.Aborted
-      pub ended : OnOk result (work_of y ≡ Err refusal.NoTransaction)
-      pub dropped : OnOk result ((u : View) (v : Client) → MayBeAt a v → InView x u v → (MayBeAt b (unvoted v)) × (Between y (unvoted v)))
-      pub refused : (r : Refusal) → work_of x ≡ Err r → (result ≡ Err r) × (b ≡ a)
-      pub makes : (w : Work) → work_of x ≡ Ok w → MakesAt a (Abort result) b
-      pub err : OnErr result (y ≡ x)
-      pub same : OnErr result ((v : Client) → MayBeAt a v → MayBeAt b v)
-
-    -- the connection is told what its client knows
-    pub record ToldOver (reply : Answer) (y : Connection) (b : LinkAt E) : Type 0 where
-      pub result : Result ℕ Refusal
-      pub answer : reply ≡ delivered_with result
-      pub front : IfOk result (λ front. (v : Client) → MayBeAt a v → front ≡ v.known.front)
-      pub view : OnOk result ((u : View) (v : Client) → MayBeAt a v → InView x u v → InView y u (renewed v.known v))
-      pub between : OnOk result ((v : Client) → MayBeAt a v → Between x v → Between y (renewed v.known v))
-      pub stands : OnOk result ((v : Client) → MayBeAt a v → MayBeAt b (renewed v.known v))
-      pub refused : work_of x ≡ Err refusal.NotOpen → (result ≡ Err refusal.NotOpen) × (b ≡ a)
-      pub makes : (work_of x ≢ Err refusal.NotOpen) → IsFrontBy MakesAt a b result
-      pub work : work_of y ≡ work_of x
-      pub err : OnErr result (y ≡ x)
-
-    pub record VoteOver (user description : List ℕ) (reply : Answer) (y : Connection) (b : LinkAt E) : Type 0 where
-      pub result : Result (Unit {0}) Refusal
-      pub answer : reply ≡ answered (heard_of result) answer.Voted
-      pub voted : OnOk result ((w : Work) → work_of x ≡ Ok w → work_of y ≡ Ok (record w { is_voted = true }))
-      pub err : OnErr result (work_of y ≡ work_of x)
-      pub view : (u : View) (v : Client) (w : Work) → work_of x ≡ Ok w → MayBeAt a v → InView x u v
-          → (now : Client) × (MayBeAt b now) × (InView y u now) × ((now ≡ v) ⊎ (now ≡ voting (stored_in w.pending.stores) v))
-      pub refused : (r : Refusal) → changeable (work_of x) ≡ Err r → (result ≡ Err r) × (b ≡ a) × (y ≡ x)
-      pub makes : (w : Work) → changeable (work_of x) ≡ Ok w → connections.IsCallMade MakesAt a b (Vote user description w.pending.stores w.pending.checks result) result
-
-    pub record UndoOver (user description tids : List ℕ) (reply : Answer) (y : Connection) (b : LinkAt E) : Type 0 where
-      pub result : Result (Unit {0}) Refusal
-      pub answer : reply ≡ answered (heard_of result) answer.Voted
-      pub voted : OnOk result ((w : Work) → work_of x ≡ Ok w → work_of y ≡ Ok (record w { is_voted = true }))
-      pub err : OnErr result (work_of y ≡ work_of x)
-      pub view : (u : View) (v : Client) → IsOk (followed_by (changeable (work_of x)) unmixed) → MayBeAt a v → InView x u v → (MayBeAt b (voting each_object v)) × (InView y u (voting each_object v))
-      pub refused : (r : Refusal) → followed_by (changeable (work_of x)) unmixed ≡ Err r → (result ≡ Err r) × (b ≡ a) × (y ≡ x)
-      pub makes : IsOk (followed_by (changeable (work_of x)) unmixed) → MakesAt a (Undo user description tids result) b
-
-    -- what an object has in the view of the transaction
-    pub record ReadOver (oid : ℕ) (result : Result (ℕ × List ℕ) Refusal) (y : Connection) (b : LinkAt E) : Type 0 where
-      pub reads : (u : View) (v : Client) → MayBeAt a v → InView x u v → Reads u (server_there a) oid result
-      pub view : (u : View) (v : Client) → MayBeAt a v → InView x u v → InView y u v
-      pub between : (v : Client) → Between x v → Between y v
-      pub stands : (v : Client) → MayBeAt a v → MayBeAt b v
-      pub refused : (r : Refusal) → work_of x ≡ Err r → (result ≡ Err r) × (b ≡ a)
-      pub makes : (w : Work) → work_of x ≡ Ok w → IsReadBy MakesAt a b oid w.front w.switches result
-      pub work : work_of y ≡ work_of x
-
-    -- what waits for it, or else that
-    pub record GotOver (oid : ℕ) (result : Result (ℕ × List ℕ) Refusal) (y : Connection) (b : LinkAt E) : Type 0 where
-      pub waiting : (w : Work) (p : PendingStore) → work_of x ≡ Ok w → pending_of w.pending.stores oid ≡ Some p → ((result ≡ waiting_read oid p) ⊎ (result ≡ Err refusal.Memory)) × (b ≡ a)
-      pub reads : (w : Work) → work_of x ≡ Ok w → pending_of w.pending.stores oid ≡ None → (u : View) (v : Client) → MayBeAt a v → InView x u v → Reads u (server_there a) oid result
-      pub view : (u : View) (v : Client) → MayBeAt a v → InView x u v → InView y u v
-      pub between : (v : Client) → Between x v → Between y v
-      pub stands : (v : Client) → MayBeAt a v → MayBeAt b v
-      pub refused : (r : Refusal) → work_of x ≡ Err r → (result ≡ Err r) × (b ≡ a)
-      pub makes : (w : Work) → work_of x ≡ Ok w → pending_of w.pending.stores oid ≡ None → IsReadBy MakesAt a b oid w.front w.switches result
-      pub work : work_of y ≡ work_of x
-
     -- what was read of it has fitted a frame
     abbrev pub FittingOver : ℕ → Result (ℕ × List ℕ) Refusal → Connection → LinkAt E → Type 0
-    FittingOver oid result y b = (raw : Result (ℕ × List ℕ) Refusal) × (result ≡ fitting raw) × GotOver oid raw y b
+    FittingOver oid result y b = (raw : Result (ℕ × List ℕ) Refusal) × (result ≡ fitting raw) × GotOver x a oid raw y b
 
     -- what waits may be changed, or why it may not; it stays as it is
     pub record MayChangeOver (result : Result (Unit {0}) Refusal) (y : Connection) : Type 0 where

@@ -3,6 +3,7 @@
 
 mod answers;
 mod asking;
+mod calls;
 mod client;
 mod clients;
 mod errors;

@@ -6,13 +6,6 @@ use Rattle.client_turns.proofs.over.line_over.Goals as goal
 pub returns-in_default-from_slice-clause-line : goal.returns-in_default-from_slice-clause-line
 returns-in_default-from_slice-clause-line g c = line_uncalled g.W.Carrier.told g.W.Carrier.steps g.W.Carrier.machine c.args.line.now c.args.connection.now _
 
-pub returns-in_default-from_slice-2-clause-line : goal.returns-in_default-from_slice-2-clause-line
-returns-in_default-from_slice-2-clause-line g c = line_uncalled g.W.Carrier.told g.W.Carrier.steps g.W.Carrier.machine c.args.line.now c.args.connection.now _
-
-pub returns-in-Begin-clause-line : goal.returns-in-Begin-clause-line
-returns-in-Begin-clause-line g c =
-    line_called g.W.Carrier.told g.W.Carrier.steps g.W.Carrier.machine c.args.line.now line.Begin c.args.connection.now _ _ _ c.begin_over.result c.in-Begin.is c.begin_over.ensures.line
-
 pub returns-in-Load-clause-line : goal.returns-in-Load-clause-line
 returns-in-Load-clause-line g c =
     line_called g.W.Carrier.told g.W.Carrier.steps g.W.Carrier.machine c.args.line.now (line.Load c.in-Load.oid) c.args.connection.now _ _ _ c.load_over.result c.in-Load.is c.load_over.ensures.line
@@ -21,33 +14,9 @@ pub returns-in-Get-clause-line : goal.returns-in-Get-clause-line
 returns-in-Get-clause-line g c =
     line_called g.W.Carrier.told g.W.Carrier.steps g.W.Carrier.machine c.args.line.now (line.Get c.in-Get.oid) c.args.connection.now _ _ _ c.get_over.result c.in-Get.is c.get_over.ensures.line
 
-pub returns-in-Check-clause-line : goal.returns-in-Check-clause-line
-returns-in-Check-clause-line g c =
-    line_called g.W.Carrier.told g.W.Carrier.steps g.W.Carrier.machine c.args.line.now (line.Check c.in-Check.oid c.in-Check.serial) c.args.connection.now _ _ _ c.check_over.result c.in-Check.is c.check_over.ensures.line
-
-pub returns-in-Delete-clause-line : goal.returns-in-Delete-clause-line
-returns-in-Delete-clause-line g c =
-    line_called g.W.Carrier.told g.W.Carrier.steps g.W.Carrier.machine c.args.line.now (line.Delete c.in-Delete.oid c.in-Delete.base) c.args.connection.now _ _ _ c.delete_over.result c.in-Delete.is c.delete_over.ensures.line
-
-pub returns-in-Savepoint-clause-line : goal.returns-in-Savepoint-clause-line
-returns-in-Savepoint-clause-line g c =
-    line_called g.W.Carrier.told g.W.Carrier.steps g.W.Carrier.machine c.args.line.now line.Savepoint c.args.connection.now _ _ _ c.savepoint_over.result c.in-Savepoint.is c.savepoint_over.ensures.line
-
-pub returns-in-Rollback-clause-line : goal.returns-in-Rollback-clause-line
-returns-in-Rollback-clause-line g c =
-    line_called g.W.Carrier.told g.W.Carrier.steps g.W.Carrier.machine c.args.line.now (line.Rollback c.in-Rollback.number) c.args.connection.now _ _ _ c.rollback_over.result c.in-Rollback.is c.rollback_over.ensures.line
-
 pub returns-in-Vote-clause-line : goal.returns-in-Vote-clause-line
 returns-in-Vote-clause-line g c =
     line_called g.W.Carrier.told g.W.Carrier.steps g.W.Carrier.machine c.args.line.now (line.Vote c.in-Vote.user c.in-Vote.description) c.args.connection.now _ _ _ c.vote_over.result c.in-Vote.is c.vote_over.ensures.line
-
-pub returns-in-Finish-clause-line : goal.returns-in-Finish-clause-line
-returns-in-Finish-clause-line g c =
-    line_called g.W.Carrier.told g.W.Carrier.steps g.W.Carrier.machine c.args.line.now line.Finish c.args.connection.now _ _ _ c.finish_over.result c.in-Finish.is c.finish_over.ensures.line
-
-pub returns-in-Abort-clause-line : goal.returns-in-Abort-clause-line
-returns-in-Abort-clause-line g c =
-    line_called g.W.Carrier.told g.W.Carrier.steps g.W.Carrier.machine c.args.line.now line.Abort c.args.connection.now _ _ _ c.abort_over.result c.in-Abort.is c.abort_over.ensures.line
 
 pub returns-in-Deliver-clause-line : goal.returns-in-Deliver-clause-line
 returns-in-Deliver-clause-line g c =
@@ -55,13 +24,8 @@ returns-in-Deliver-clause-line g c =
 
 pub returns-in-Ok-clause-line : goal.returns-in-Ok-clause-line
 returns-in-Ok-clause-line g c =
-    let copied : c.in-Ok.bytes ≡ c.in-Store.bytes = search rules in
-    line_called g.W.Carrier.told g.W.Carrier.steps g.W.Carrier.machine c.args.line.now (line.Store c.in-Store.oid c.in-Store.base c.in-Ok.bytes) c.args.connection.now _ _ _ c.store_over.result (c.in-Store.is ∙ ap (λ b. line.Store c.in-Store.oid c.in-Store.base b) (sym copied)) c.store_over.ensures.line
-
-pub returns-in-Ok-from_slice-clause-line : goal.returns-in-Ok-from_slice-clause-line
-returns-in-Ok-from_slice-clause-line g c =
-    let copied : c.in-Ok-from_slice.bytes ≡ c.in-Put.bytes = search rules in
-    line_called g.W.Carrier.told g.W.Carrier.steps g.W.Carrier.machine c.args.line.now (line.Put c.in-Put.oid c.in-Ok-from_slice.bytes) c.args.connection.now _ _ _ c.put_over.result (c.in-Put.is ∙ ap (λ b. line.Put c.in-Put.oid b) (sym copied)) c.put_over.ensures.line
+    let copied : c.in-Ok.bytes ≡ c.in-Put.bytes = search rules in
+    line_called g.W.Carrier.told g.W.Carrier.steps g.W.Carrier.machine c.args.line.now (line.Put c.in-Put.oid c.in-Ok.bytes) c.args.connection.now _ _ _ c.put_over.result (c.in-Put.is ∙ ap (λ b. line.Put c.in-Put.oid b) (sym copied)) c.put_over.ensures.line
 
 pub returns-in-Undo-clause-line : goal.returns-in-Undo-clause-line
 returns-in-Undo-clause-line g c =
