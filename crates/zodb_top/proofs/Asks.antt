@@ -1,5 +1,5 @@
 -- Steps that only read, and what they are answered.
-use Rattle.std.proofs.Common.{◌≡◌, ℕ, Bool, true, false, List, Option, Some, None, arith, refl, sym, ap, subst, ◌∙◌}
+use Rattle.std.proofs.Common.{◌≡◌, ℕ, Bool, true, false, List, [], ◌∷◌, Option, Some, None, arith, refl, sym, ap, subst, ◌∙◌}
 use Rattle.std.specs.Prelude.{IfOk, IsErrOf, IsTrue, Result, Ok, Err}
 use Rattle.zb_base.specs.Counts.{Rose}
 use Rattle.zodb_top.specs.declared.asking.AskError.{AskError}
@@ -8,12 +8,9 @@ use Rattle.zb_ids.specs.declared.stamp.Stamp.{Stamp}
 use Rattle.zb_model.specs.declared.data.Transaction.{Transaction}
 use Rattle.zb_model.specs.declared.found.Found.{Found}
 use Rattle.zb_model.specs.declared.found.Found.TheVariants as found
-use Rattle.zb_model.specs.declared.lists.LogLine.{LogLine}
-use Rattle.zb_model.specs.declared.lists.Revision.{Revision}
 use Rattle.zb_model.specs.declared.news.News.{News}
 use Rattle.zb_model.specs.declared.refusal.Refusal.{Refusal}
 use Rattle.zb_model.specs.declared.refusal.Refusal.TheVariants as refusal
-use Rattle.zb_model.specs.Lists.{history_of, undo_log_of}
 use Rattle.zb_model.specs.Queries.{found_below}
 use Rattle.zb_model.specs.Stores.{StoreState}
 use Rattle.zodb_core.specs.declared.reply.Reply.{Reply}
@@ -26,8 +23,9 @@ use Rattle.zodb_core.specs.Machine.{Machine, front_of, machine_over, with_sessio
 use Rattle.zodb_core.specs.Outcomes.{Answered, AreLaterCounts, EndsFor, FaultCounts, NoMemory, ReadingFailed, StepOutcome, StoreFailed, changes_store, is_pack, keeps_store, machine_left, outcome_of, outcome_of_refusal}
 use Rattle.zodb_core.specs.StepCases.{by_unanswered, early_answers}
 use Rattle.zodb_core.specs.Steps.{Stepped, early_refusal, loaded, replied, request_step, step_of, unless_early}
-use Rattle.zodb_top.specs.Asked.{content_of, digested, last_of, shown}
-use Rattle.zodb_top.specs.Asking.{AsksOnly, IsLast, IsStepped, KeepsList, KeepsStore, ask_refusal, digested_reply, only_reads, reply_content, shown_reply}
+use Rattle.program_words.specs.declared.command.Asked.TheVariants.{UndoLog, History, Show, Digest}
+use Rattle.zodb_top.specs.Asked.{content_of, digested, last_of, lines_of, shown}
+use Rattle.zodb_top.specs.Asking.{AsksOnly, IsLast, IsStepped, KeepsList, KeepsStore, ask_refusal, digested_reply, only_reads, replied_lines, reply_content, shown_reply}
 use Rattle.side_by_side.specs.Runs.{stock}
 
 -- ---- a step that only reads
@@ -147,11 +145,18 @@ reply_of m n q r s = at_once (early_refusal m n q) m (request_step stock m n q s
 pub front_is : (m : Machine) (n : ℕ) (f : ℕ) (news : News) (switches : ℕ) → IsStepped m n request.Front (reply.Front f news switches) → f ≡ front_of m.list
 front_is m n f news switches s = let is = reply_of m n request.Front (reply.Front f news switches) s in cc
 
-pub history_is : (m : Machine) (n oid : ℕ) (list : List Revision) → IsStepped m n (request.History oid) (reply.History list) → list ≡ history_of oid m.list
-history_is m n oid list s = let is = reply_of m n (request.History oid) (reply.History list) s in cc
+-- the reply to what is asked gives its lines
+pub undolog_replies : (m : Machine) (n : ℕ) (r : Reply) → IsStepped m n request.UndoLog r → replied_lines UndoLog r ≡ Some (lines_of UndoLog m.list)
+undolog_replies m n r s = ap (replied_lines UndoLog) (reply_of m n request.UndoLog r s)
 
-pub undolog_is : (m : Machine) (n : ℕ) (list : List LogLine) → IsStepped m n request.UndoLog (reply.UndoLog list) → list ≡ undo_log_of m.list
-undolog_is m n list s = let is = reply_of m n request.UndoLog (reply.UndoLog list) s in cc
+pub history_replies : (m : Machine) (n oid : ℕ) (r : Reply) → IsStepped m n (request.History oid) r → replied_lines (History oid) r ≡ Some (lines_of (History oid) m.list)
+history_replies m n oid r s = ap (replied_lines (History oid)) (reply_of m n (request.History oid) r s)
+
+pub show_replies : (list : List Transaction) (oid : ℕ) (r : Reply) → IsLast oid list r → replied_lines (Show oid) r ≡ Some (lines_of (Show oid) list)
+show_replies list oid r last = ap (λ (t : List ℕ). Some (t ∷ [])) last.shown
+
+pub digest_replies : (list : List Transaction) (oid : ℕ) (r : Reply) → IsLast oid list r → replied_lines (Digest oid) r ≡ Some (lines_of (Digest oid) list)
+digest_replies list oid r last = ap (λ (t : List ℕ). Some (t ∷ [])) last.digested
 
 shown_loaded : (m : Machine) (oid : ℕ) (f : Found) → shown_reply (loaded m oid f) ≡ shown f
 shown_loaded m oid (found.Held serial bytes end) = refl

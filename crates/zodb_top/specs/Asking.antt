@@ -1,5 +1,5 @@
 -- What the code of a command that takes no script says of replies.
-use Rattle.std.specs.Prelude.{◌≡◌, ℕ, List, [], ◌∷◌, ◌++◌, Option, Some, None, Result, Ok, Err, IsErrOf, Bool, true, false}
+use Rattle.std.specs.Prelude.{◌≡◌, ℕ, List, [], ◌∷◌, ◌++◌, Option, Some, None, Result, Ok, Err, IsErrOf, Bool, true, false, map}
 use Rattle.std.specs.Io.KnownBytes.{Appends}
 use Rattle.zb_base.specs.Counts.{Rose}
 use Rattle.zb_ids.specs.declared.stamp.Stamp.{Stamp}
@@ -8,6 +8,7 @@ use Rattle.zb_model.specs.declared.data.Transaction.{Transaction}
 use Rattle.zb_model.specs.declared.refusal.Refusal.{Refusal}
 use Rattle.zb_model.specs.declared.refusal.Refusal.TheVariants as refusal
 use Rattle.zb_model.specs.Stores.{StoreState}
+use Rattle.zb_answers.specs.Lists.{log_text, revision_text}
 use Rattle.zb_answers.specs.Objects.{shown_line}
 use Rattle.zb_volume.specs.declared.areas.Area.TheVariants.{Main}
 use Rattle.zb_volume.specs.Moments.{Leaves}
@@ -24,6 +25,7 @@ use Rattle.zodb_top.specs.declared.asking.AskError.TheVariants as error
 use Rattle.script_runs.specs.declared.status.Status.{Status}
 use Rattle.script_runs.specs.declared.status.Status.TheVariants as status
 use Rattle.program_words.specs.declared.command.Asked.{Asked}
+use Rattle.program_words.specs.declared.command.Asked.TheVariants.{UndoLog, History, Show, Digest, Check}
 use Rattle.zodb_top.specs.Asked.{IsSaid, content_of, digested, last_of, shown}
 use Rattle.side_by_side.specs.Runs.{stock}
 use Rattle.zodb_top.specs.Texts.{digest_line, missing_line, refused_line}
@@ -51,6 +53,21 @@ shown_reply _ = missing_line
 abbrev pub digested_reply : Reply → List ℕ
 digested_reply (reply.Loaded serial bytes end upto) = digest_line serial bytes
 digested_reply _ = missing_line
+
+-- the lines that a reply gives to what is asked, if it answers that
+abbrev pub replied_lines : Asked → Reply → Option (List (List ℕ))
+replied_lines UndoLog (reply.UndoLog list) = Some (map log_text list)
+replied_lines UndoLog _ = None
+replied_lines (History oid) (reply.History list) = Some (map revision_text list)
+replied_lines (History oid) _ = None
+replied_lines (Show oid) r = Some (shown_reply r ∷ [])
+replied_lines (Digest oid) r = Some (digested_reply r ∷ [])
+replied_lines (Check oid) r = None
+
+-- a check, which takes more than one reply
+abbrev pub is_check : Asked → Bool
+is_check (Check oid) = true
+is_check _ = false
 
 -- what the reply to a load says that an object has
 abbrev pub reply_content : Reply → Option (List ℕ)

@@ -1,14 +1,13 @@
 //! What is asked of the file, beside running a script: one session of a hub answers it.
 
-ghost use Rattle.std.specs.Prelude.{◌≡◌, ◌∷◌, [], None, false, true, map, IfOk, IsErrOf};
+ghost use Rattle.std.specs.Prelude.{◌≡◌, ◌∷◌, [], None, Some, false, true, map, IfOk, IsErrOf};
 ghost use Rattle.zb_base.specs.Counts.{Rose};
-ghost use Rattle.zb_model.specs.Lists.{history_of, undo_log_of};
 ghost use Rattle.zb_answers.specs.Lists.{log_text, revision_text};
 ghost use Rattle.zodb_core.specs.HubState.{IsFitting, StandsForMachine, counts_of};
 ghost use Rattle.zodb_core.specs.Machine.{Machine, front_of};
-ghost use Rattle.zodb_top.specs.Asked.{digested, last_of, lines_of, shown};
+ghost use Rattle.zodb_top.specs.Asked.{lines_of};
 ghost use Rattle.zodb_top.specs.Asking.{AsksOnly, IsLast, IsStepped, LeavesStore, ask_refusal};
-ghost use Rattle.zodb_top.specs.Asking.{digested_reply, only_reads, shown_reply};
+ghost use Rattle.zodb_top.specs.Asking.{digested_reply, is_check, only_reads, replied_lines, shown_reply};
 ghost use Rattle.zodb_top.specs.Texts.{digest_line};
 
 use crate::checking::check;
@@ -176,67 +175,63 @@ fn load_last<St: Store, C: Clock>(
     )
 }
 
-fn undo_log<St: Store, C: Clock>(
-    alloc: Global,
-    hub: &mut Hub<St, StockResolver, StockRefs>,
-    session: u32,
-    clock: &mut C,
-) -> Result<ListOf<Text8>, AskError>
-    ensures lines { St.told → (m : Machine) → StandsForMachine hub.old m → IfOk result (λ lines. lines ≡ map log_text (undo_log_of m.list)) }
-    ensures asks { AsksOnly St.told hub.old hub.new
-        (C.stamps clock.old) (C.stamps clock.new) result }
+/// The lines that a reply gives to what is asked. The one error is want of memory.
+fn lines_in(alloc: Global, asked: Asked, reply: &Reply) -> Result<ListOf<Text8>, AllocError>
+    ensures { IfOk result (λ lines. replied_lines asked reply.now ≡ Some lines) }
 {
-    match ask(alloc, hub, session, Request::UndoLog, clock)? {
-        Reply::UndoLog { list } => Ok(log_lines(alloc, list.as_slice())?),
-        _ => Err(AskError::Memory),
+    match asked {
+        Asked::UndoLog => match reply {
+            Reply::UndoLog { list } => log_lines(alloc, list.as_slice()),
+            _ => Err(AllocError),
+        },
+        Asked::History { .. } => match reply {
+            Reply::History { list } => revision_lines(alloc, list.as_slice()),
+            _ => Err(AllocError),
+        },
+        Asked::Show { .. } => only_line(alloc, show_line(alloc, reply)?),
+        Asked::Digest { .. } => only_line(alloc, digested_line(alloc, reply)?),
+        Asked::Check { .. } => Err(AllocError),
     }
 }
 
-fn history<St: Store, C: Clock>(
+/// The reply of a session to what is asked, which is no check: that takes as many as the tree has objects.
+fn reply_to<St: Store, C: Clock>(
     alloc: Global,
     hub: &mut Hub<St, StockResolver, StockRefs>,
     session: u32,
-    oid: Oid,
+    asked: Asked,
     clock: &mut C,
-) -> Result<ListOf<Text8>, AskError>
-    ensures lines { St.told → (m : Machine) → StandsForMachine hub.old m → IfOk result (λ lines. lines ≡ map revision_text (history_of oid m.list)) }
+) -> Result<Reply, AskError>
+    requires one { is_check asked ≡ false }
+    ensures reply { St.told → (m : Machine) → StandsForMachine hub.old m → hub.old.store.broken ≡ false
+        → IfOk result (λ r. replied_lines asked r ≡ Some (lines_of asked m.list)) }
     ensures asks { AsksOnly St.told hub.old hub.new
         (C.stamps clock.old) (C.stamps clock.new) result }
 {
-    match ask(alloc, hub, session, Request::History { oid }, clock)? {
-        Reply::History { list } => Ok(revision_lines(alloc, list.as_slice())?),
-        _ => Err(AskError::Memory),
+    match asked {
+        Asked::UndoLog => ask(alloc, hub, session, Request::UndoLog, clock),
+        Asked::History { oid } => ask(alloc, hub, session, Request::History { oid }, clock),
+        Asked::Show { oid } => load_last(alloc, hub, session, oid, clock),
+        Asked::Digest { oid } => load_last(alloc, hub, session, oid, clock),
+        Asked::Check { .. } => unreachable!(),
     }
 }
 
-fn show<St: Store, C: Clock>(
+/// The lines that answer what is asked, from a session, where one reply does.
+fn replied_lines<St: Store, C: Clock>(
     alloc: Global,
     hub: &mut Hub<St, StockResolver, StockRefs>,
     session: u32,
-    oid: Oid,
+    asked: Asked,
     clock: &mut C,
 ) -> Result<ListOf<Text8>, AskError>
-    ensures lines { St.told → (m : Machine) → StandsForMachine hub.old m → hub.old.store.broken ≡ false → IfOk result (λ lines. lines ≡ shown (last_of oid m.list) ∷ []) }
+    requires one { is_check asked ≡ false }
+    ensures lines { St.told → (m : Machine) → StandsForMachine hub.old m → hub.old.store.broken ≡ false → IfOk result (λ lines. lines ≡ lines_of asked m.list) }
     ensures asks { AsksOnly St.told hub.old hub.new
         (C.stamps clock.old) (C.stamps clock.new) result }
 {
-    let reply = load_last(alloc, hub, session, oid, clock)?;
-    Ok(only_line(alloc, show_line(alloc, &reply)?)?)
-}
-
-fn digest<St: Store, C: Clock>(
-    alloc: Global,
-    hub: &mut Hub<St, StockResolver, StockRefs>,
-    session: u32,
-    oid: Oid,
-    clock: &mut C,
-) -> Result<ListOf<Text8>, AskError>
-    ensures lines { St.told → (m : Machine) → StandsForMachine hub.old m → hub.old.store.broken ≡ false → IfOk result (λ lines. lines ≡ digested (last_of oid m.list) ∷ []) }
-    ensures asks { AsksOnly St.told hub.old hub.new
-        (C.stamps clock.old) (C.stamps clock.new) result }
-{
-    let reply = load_last(alloc, hub, session, oid, clock)?;
-    Ok(only_line(alloc, digested_line(alloc, &reply)?)?)
+    let reply = reply_to(alloc, hub, session, asked, clock)?;
+    Ok(lines_in(alloc, asked, &reply)?)
 }
 
 /// The lines that answer what is asked, from a session.
@@ -252,11 +247,8 @@ fn session_lines<St: Store, C: Clock>(
         (C.stamps clock.old) (C.stamps clock.new) result }
 {
     match asked {
-        Asked::UndoLog => undo_log(alloc, hub, session, clock),
-        Asked::History { oid } => history(alloc, hub, session, oid, clock),
-        Asked::Show { oid } => show(alloc, hub, session, oid, clock),
-        Asked::Digest { oid } => digest(alloc, hub, session, oid, clock),
         Asked::Check { oid } => check(alloc, hub, session, oid, clock),
+        _ => replied_lines(alloc, hub, session, asked, clock),
     }
 }
 
