@@ -27,9 +27,10 @@ use Rattle.bucket_state.specs.declared.tree.Inner.{Inner}
 use Rattle.bucket_state.specs.States.{has_values}
 use Rattle.bucket_state.specs.Trees.{separators_of}
 use Rattle.bucket_state.specs.Writable.{IsWritable, AreWritable}
-use Rattle.bucket_state.specs.Written.{shifted, IsLaid, Laid, no_graphs, laid_on, laid_all, closed, tuple_graph, leaf_graph, key_graph, graph_found, value_pickle, value_graph, link_graph, with_value, item_graphs, next_graphs, bucket_graph, child_graphs, inner_graph}
+use Rattle.bucket_state.specs.Written.{shifted, IsLaid, Laid, no_graphs, laid_on, laid_all, closed, tuple_graph, leaf_graph, key_graph, graph_found, value_pickle, value_graph, link_graph, with_value, item_graphs, next_graphs, bucket_graph, none_graph, embedded_graph, child_graphs, inner_graph}
 use Rattle.bucket_state.specs.Flat.{IsFlatValue, FlatStands, AreFlat, FlatItems}
 use Rattle.bucket_state.specs.FlatGraphs.{IsSignedKey, AreSignedKeys, FlatIsSound, FlatIsNamed, InnerIsSound, InnerIsNamed}
+use Rattle.bucket_state.specs.LoneText.{LoneIsSound, LoneIsNamed}
 use Rattle.bucket_state.proofs.Back.{Extends, laid_extends, laid_within, closed_extends}
 use Rattle.bucket_state.proofs.Graphs.{laid_sound, closed_sound}
 use Rattle.bucket_state.proofs.Parts.{copied}
@@ -308,6 +309,18 @@ inner_good child leaf inner g h w s =
     good_tuple (tuple_graph children ∷ link_graph inner.first leaf.module_name leaf.class_name ∷ [])
     (good_tuple children (head, children_good child inner.tail g w s), (first, tt))
 
+none_good : IsGood none_graph
+none_good = record { sound = record { each = (tt, tt); rooted = omega arith }; well = (tt, tt) }
+
+embedded_good : WrittenReadsBack → (class : Class) (items : List Item) → AreWritable (keys_of items) → AreSignedKeys (keys_of items) → FlatItems class items → IsGood (embedded_graph items)
+embedded_good law class [] w s f = none_good
+embedded_good law class (item ∷ items) w s f =
+    let all : List Graph = item_graphs (item ∷ items) in
+    let one = good_tuple all (items_good law (has_values class.kind) class.key class.value (item ∷ items) f w s) in
+    let two = good_tuple (tuple_graph all ∷ []) (one, tt) in
+    let three = good_tuple (tuple_graph (tuple_graph all ∷ []) ∷ []) (two, tt) in
+    good_tuple (tuple_graph (tuple_graph (tuple_graph all ∷ []) ∷ []) ∷ []) (three, tt)
+
 -- ---- the laws
 
 oid_named : (oid : ℕ) (o : Option (List ℕ)) → IsSome o → IsSome (with_name (oid_of (Some (nodes.Bytes (big_bytes 8 oid)))) o)
@@ -333,3 +346,9 @@ inner_sound child leaf inner g h w s = (inner_good child leaf inner g h w s).sou
 
 pub inner_named : InnerIsNamed
 inner_named child leaf inner g h w s = some_named (inner_graph child leaf inner).nodes (inner_graph child leaf inner).nodes (inner_good child leaf inner g h w s).well
+
+pub lone_sound : WrittenReadsBack → LoneIsSound
+lone_sound law class items w s f = (embedded_good law class items w s f).sound
+
+pub lone_named : WrittenReadsBack → LoneIsNamed
+lone_named law class items w s f = some_named (embedded_graph items).nodes (embedded_graph items).nodes (embedded_good law class items w s f).well

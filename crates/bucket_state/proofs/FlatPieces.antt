@@ -24,7 +24,7 @@ next_appended t link t1 t2 e1 e2 = e2 ∙ ap (λ (x : List ℕ). x ++ 0x86 ∷ [
 -- ---- items
 
 -- how many members flat items have
-many : (values : Bool) (key_kind : KeyKind) (value_kind : ValueKind) (items : List Item) → AreFlat values key_kind value_kind items → length (item_texts items) ≡ members_of values (length items)
+pub many : (values : Bool) (key_kind : KeyKind) (value_kind : ValueKind) (items : List Item) → AreFlat values key_kind value_kind items → length (item_texts items) ≡ members_of values (length items)
 many true key_kind value_kind [] h = refl
 many false key_kind value_kind [] h = refl
 many true key_kind value_kind (item ∷ items) h = by_value item.value h.1 (many true key_kind value_kind items h.2)

@@ -139,10 +139,10 @@ edgeless_copies origin leaf [] (m ∷ ms) lone h = absurd h
 edgeless_copies origin leaf (c ∷ cs) [] lone h = absurd h
 
 -- the leaf by itself
-lone_piece : (leaf : Node) (text : List ℕ) → is_held leaf ≡ false → leaf_text leaf ≡ text → root_piece (leaf ∷ []) 0 ≡ plain text 1
+pub lone_piece : (leaf : Node) (text : List ℕ) → is_held leaf ≡ false → leaf_text leaf ≡ text → root_piece (leaf ∷ []) 0 ≡ plain text 1
 lone_piece leaf text lone spelled = leaf_piece WALK_LIMIT (leaf ∷ []) (is_shared (leaf ∷ []) 0) 0 text (record { leaf = leaf; there = refl; lone = lone; spelled = spelled })
 
-lone_spelled : (leaf : Node) (text : List ℕ) → is_held leaf ≡ false → leaf_text leaf ≡ text → spelling_of (leaf ∷ []) 0 ≡ Ok text
+pub lone_spelled : (leaf : Node) (text : List ℕ) → is_held leaf ≡ false → leaf_text leaf ≡ text → spelling_of (leaf ∷ []) 0 ≡ Ok text
 lone_spelled leaf text lone spelled =
     let deep = leaf_walk WALK_LIMIT (leaf ∷ []) 0 text (record { leaf = leaf; there = refl; lone = lone; spelled = spelled }) in
     let piece = lone_piece leaf text lone spelled in
@@ -234,7 +234,7 @@ leaves_give levels ns shared (m ∷ ms) (text ∷ texts) h = (1, length texts, o
 leaves_give levels ns shared [] (text ∷ texts) h = absurd h
 leaves_give levels ns shared (m ∷ ms) [] h = absurd h
 
-leafy_once : (gs : List Graph) (texts : List (List ℕ)) → AllLeafy gs texts → EachOnce gs
+pub leafy_once : (gs : List Graph) (texts : List (List ℕ)) → AllLeafy gs texts → EachOnce gs
 leafy_once [] [] h = tt
 leafy_once (g ∷ gs) (text ∷ texts) h = (edgeless_once g (in_range g.nodes g.root h.0.at.leaf h.0.at.there) h.0.edgeless, leafy_once gs texts h.1)
 leafy_once [] (text ∷ texts) h = absurd h
@@ -248,7 +248,7 @@ value_case law true kind (Some text) gs texts f h = (value_leafy law kind text f
 value_case law false kind None gs texts f h = h
 value_case law false kind (Some text) gs texts f h = absurd f
 
-items_leafy : WrittenReadsBack → (values : Bool) (key_kind : KeyKind) (value_kind : ValueKind) (items : List items.Item) → AreFlat values key_kind value_kind items → AllLeafy (item_graphs items) (item_texts items)
+pub items_leafy : WrittenReadsBack → (values : Bool) (key_kind : KeyKind) (value_kind : ValueKind) (items : List items.Item) → AreFlat values key_kind value_kind items → AllLeafy (item_graphs items) (item_texts items)
 items_leafy law values key_kind value_kind [] h = tt
 items_leafy law values key_kind value_kind (item ∷ items) h =
     (key_leafy item.key, value_case law values value_kind item.value (item_graphs items) (item_texts items) h.1 (items_leafy law values key_kind value_kind items h.2))
@@ -256,7 +256,7 @@ items_leafy law values key_kind value_kind (item ∷ items) h =
 -- ---- the parts of a state
 
 -- the tuple of items, wherever its graph lies first
-inner_piece : WrittenReadsBack → (levels : ℕ) (class : Class) (items : List items.Item) (big : List Node) (shared : ℕ → Bool) → FlatItems class items → Extends (tuple_graph (item_graphs items)).nodes big → ((m : ℕ) → shared m ≡ false) → piece_of (suc (suc levels)) big shared (0 + (tuple_graph (item_graphs items)).root) [] ≡ plain (tuple_text (item_texts items)) (length (item_texts items) + 1)
+pub inner_piece : WrittenReadsBack → (levels : ℕ) (class : Class) (items : List items.Item) (big : List Node) (shared : ℕ → Bool) → FlatItems class items → Extends (tuple_graph (item_graphs items)).nodes big → ((m : ℕ) → shared m ≡ false) → piece_of (suc (suc levels)) big shared (0 + (tuple_graph (item_graphs items)).root) [] ≡ plain (tuple_text (item_texts items)) (length (item_texts items) + 1)
 inner_piece law levels class items big shared flat ext apart =
     let fin : Laid = laid_all no_graphs (item_graphs items) in
     let laid = leaves_laid no_graphs (item_graphs items) (item_texts items) (items_leafy law (has_values class.kind) class.key class.value items flat) in
@@ -374,7 +374,7 @@ flat_spelled law class bucket flat =
     let piece = bucket_piece law class bucket.items bucket.next flat in
     λ k. cond (deep k) (Err errors.TooDeep) (Ok (piece k).text)
 
-texts_few : (items : List items.Item) → length (item_texts items) ≤ 2 * length items
+pub texts_few : (items : List items.Item) → length (item_texts items) ≤ 2 * length items
 texts_few [] = omega arith
 texts_few (item ∷ items) = let rest = texts_few items in by_value item.value rest
   where

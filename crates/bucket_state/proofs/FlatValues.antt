@@ -1,7 +1,8 @@
 -- Leaves and their texts.
 use Rattle.std.proofs.Common.{◌≡◌, ℕ, zero, suc, ◌+◌, ◌*◌, ◌<◌, ◌≤◌, ◌^◌, ◌-◌, Bool, true, false, cond, List, [], ◌∷◌, ◌++◌, length, take, drop, get_or, inl, inr, refl, sym, ◌∙◌, ap, subst, arith, IsTrue, nat_lt, nat_eq}
-use Rattle.std.specs.Prelude.{pos, negsuc, slice_index_or}
-use Rattle.std.specs.Int.{w16, w32, cast_unsigned, to_le_bytes}
+use Rattle.std.specs.Prelude.{ℤ, pos, negsuc, slice_index_or}
+use Rattle.std.specs.Int.{w16, w32, w128, cast_unsigned, to_le_bytes}
+use mir.Val.{SFits}
 use Rattle.std.specs.Str.{is_utf8}
 use Rattle.std.proofs.lemmas.Bool.{cases_lt, lt-ltb, le-ltb, le-leb, ltb-true, eqb-true, and_from}
 use Rattle.std.proofs.lemmas.Nat.{le_bytes_2, le_bytes_4}
@@ -10,6 +11,8 @@ use Rattle.pickle_graph.specs.Graph.{IsSigned128}
 use Rattle.pickle_graph.specs.declared.node.Node.TheVariants as nodes
 use Rattle.btree_family.specs.declared.table.ValueKind.{ValueKind}
 use Rattle.btree_family.specs.declared.table.ValueKind.TheVariants as values
+use Rattle.pickle_writing.specs.Spelling.{number_text}
+use Rattle.btree_family.specs.Families.{number_fits}
 use Rattle.bucket_state.specs.States.{value_fits}
 use Rattle.bucket_state.specs.Flat.{IsFlatValue}
 
@@ -136,6 +139,20 @@ four_flat kind a b c d a' b' c' d' some =
     each (suc (suc zero)) = c'
     each (suc (suc (suc zero))) = d'
     each (suc (suc (suc (suc i)))) = omega arith
+
+-- any number of the family
+fits_so : (kind : ValueKind) (number : ℤ) → number_fits kind number ≡ true → value_fits kind (nodes.Number number) ≡ true
+fits_so values.Object number h = refl
+fits_so values.Int32 number h = h
+fits_so values.Int64 number h = h
+
+signed_so : (number : ℤ) → SFits w128 number → IsSigned128 number
+signed_so (pos n) h = let low = h.sfits in record { low = grind arith; high = grind (arith, low) }
+signed_so (negsuc n) h = let low = h.sfits in record { low = grind (arith, low); high = grind arith }
+
+pub number_flat : (kind : ValueKind) (number : ℤ) (fits : Bool) (text sliced spelled : List ℕ) → SFits w128 number → fits ≡ number_fits kind number → IsTrue fits → text ≡ sliced → sliced ≡ spelled → spelled ≡ number_text number → IsFlatValue kind text
+number_flat kind number fits text sliced spelled range is so same seen by =
+    record { leaf = nodes.Number number; sound = signed_so number range; lone = refl; fits = fits_so kind number (sym is ∙ so); spelled = sym (same ∙ seen ∙ by) }
 
 -- ---- texts by their first bytes
 

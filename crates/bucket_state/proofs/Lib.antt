@@ -22,3 +22,5 @@ pub mod FlatOnce
 pub mod FlatSpelled
 pub mod InnerSpelled
 pub mod InnerPieces
+pub mod LoneSpelled
+pub mod LonePieces

@@ -8,3 +8,4 @@ pub mod Depths
 pub mod Flat
 pub mod InnerText
 pub mod FlatGraphs
+pub mod LoneText

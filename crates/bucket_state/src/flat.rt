@@ -10,7 +10,7 @@ ghost use Rattle.bucket_state.specs.Flat.{IsFlatValue, IsWithItems, IsFlatState,
 
 use crate::items::has_values;
 use crate::writing::key_spelling;
-use btree_family::{Bucket, ClassRow, Item, Key, ValueKind, key_fits};
+use btree_family::{Bucket, ClassRow, Item, Key, ValueKind, key_fits, number_fits};
 use byteorder::{BigEndian, ByteOrder};
 use pickle_graph::Node;
 use std::alloc::{AllocError, Global};
@@ -146,6 +146,65 @@ fn is_flat_number(kind: ValueKind, text: &[u8]) -> bool
     false
 }
 
+/// The number that at most sixteen bytes say in two's complement, the lowest first.
+fn number_said(bytes: &[u8]) -> i128 {
+    let mut fill: u8 = 0;
+    if let Some(last) = bytes.last() {
+        if *last >= 128 {
+            fill = 0xff;
+        }
+    }
+    let mut all: [u8; 16] = [fill; 16];
+    let mut place: usize = 0;
+    for byte in bytes {
+        if place < 16 {
+            all[place] = *byte;
+            place += 1;
+        }
+    }
+    i128::from_le_bytes(all)
+}
+
+/// Whether bytes are the same.
+fn is_same(one: &[u8], other: &[u8]) -> bool
+    ensures { IsTrue result → one.now ≡ other.now }
+{
+    one == other
+}
+
+/// Whether the text is that of a whole number, as it is written.
+fn spells_number(
+    alloc: Global,
+    kind: ValueKind,
+    number: i128,
+    text: &[u8],
+) -> Result<bool, AllocError>
+    ensures { IfOk result (λ so. IsTrue so → IsFlatValue kind text.now) }
+{
+    let spelled = key_spelling(alloc, &Key::Number(number))?;
+    if is_same(text, spelled.as_slice()) {
+        return Ok(number_fits(kind, number));
+    }
+    Ok(false)
+}
+
+/// Whether the text is a whole number of five to sixteen bytes, as it is written.
+fn is_long_number(alloc: Global, kind: ValueKind, text: &[u8]) -> Result<bool, AllocError>
+    ensures { IfOk result (λ so. IsTrue so → IsFlatValue kind text.now) }
+{
+    if text.len() < 7 {
+        return Ok(false);
+    }
+    if text.len() > 18 {
+        return Ok(false);
+    }
+    if text[0] != 0x8a {
+        return Ok(false);
+    }
+    let (_, bytes) = text.split_at(2);
+    spells_number(alloc, kind, number_said(bytes), text)
+}
+
 /// Whether the text is None, a boolean, a float, a text or bytes, as it is written.
 fn is_flat_leaf(text: &[u8]) -> bool
     ensures { IsTrue result → IsFlatValue ValueKind.Object text.now }
@@ -183,17 +242,20 @@ fn is_flat_leaf(text: &[u8]) -> bool
     false
 }
 
-/// Whether the text is that of a leaf that is a value of the family. Long numbers and classes are
-/// not seen.
-fn is_flat(kind: ValueKind, text: &[u8]) -> bool
-    ensures { IsTrue result → IsFlatValue kind text.now }
+/// Whether the text is that of a leaf that is a value of the family. Numbers of more than sixteen
+/// bytes and classes are not seen.
+fn is_flat(alloc: Global, kind: ValueKind, text: &[u8]) -> Result<bool, AllocError>
+    ensures { IfOk result (λ so. IsTrue so → IsFlatValue kind text.now) }
 {
     if is_flat_number(kind, text) {
-        return true;
+        return Ok(true);
+    }
+    if is_long_number(alloc, kind, text)? {
+        return Ok(true);
     }
     match kind {
-        ValueKind::Object => is_flat_leaf(text),
-        _ => false,
+        ValueKind::Object => Ok(is_flat_leaf(text)),
+        _ => Ok(false),
     }
 }
 
@@ -221,7 +283,7 @@ fn with_item(
             if !has_values(row.kind) {
                 return Ok(None);
             }
-            if !is_flat(row.value, value.as_slice()) {
+            if !is_flat(alloc, row.value, value.as_slice())? {
                 return Ok(None);
             }
             text.extend_from_slice(value.as_slice())?;
@@ -231,7 +293,7 @@ fn with_item(
 }
 
 /// The text, and items behind it, where they are flat and of the class.
-fn with_items(
+pub(crate) fn with_items(
     alloc: Global,
     text: Text8,
     row: &ClassRow,
@@ -333,8 +395,8 @@ pub(crate) fn closed(mut text: Text8, count: usize) -> Result<Text8, AllocError>
 /// [`spelling`](pickle_writing::spelling) gives of the graph that
 /// [`write_bucket`](crate::write_bucket) makes.
 ///
-/// It is `None` for every other bucket, and for some whose values are long numbers or classes. Want
-/// of memory is the one error.
+/// It is `None` for every other bucket, and for some whose values are numbers of more than sixteen
+/// bytes or classes. Want of memory is the one error.
 #[tactic(auto, using(crate::proofs::FlatPieces::state_text))]
 pub fn flat_state(
     alloc: Global,

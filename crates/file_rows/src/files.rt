@@ -171,7 +171,8 @@ fn changes(alloc: Global, row: &Row) -> Result<String, RowError> {
     let opened = opened_of(alloc, row)?;
     let mut text = String::new(alloc);
     for place in 1..row.fields.len() {
-        let count = opened.numbers.changes_to(Tid(row.number(place)?));
+        let tid = Tid(row.number(place)?);
+        let count = opened.numbers.changes_to(opened.index.transactions(), tid);
         write!(text, " {count}")?;
     }
     trimmed(alloc, &text)

@@ -79,4 +79,4 @@ pub record IsVotedIn (bytes : List ℕ) (s : Staged) (index : StagedKept) : Type
 -- there is room for one more transaction with so many changes
 pub record HasRoomForTally (numbers : NumbersKept) (count : ℕ) : Type 0 where
   pub room : 0 < numbers.room
-  pub total : total_of numbers.tallies + count < 2 ^ 64
+  pub total : total_of numbers.tallies + count < 2 ^ 63

@@ -265,7 +265,7 @@ impl<V: Volume + Drop> Store for FileStore<V> {
     }
 
     fn changes_to(&self, tid: Tid) -> u64 {
-        self.numbers.changes_to(tid)
+        self.numbers.changes_to(self.index.starts(), tid)
     }
 
     fn first_tid_after(&self, tid: Tid) -> Option<Tid> {

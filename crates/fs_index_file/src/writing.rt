@@ -16,7 +16,7 @@ use crate::closing::shut;
 use crate::entries::OPEN;
 use fs_index::{Index, Place, Placed};
 use fs_records::{COMMITTED, PACKED};
-use fs_recovery::{Numbers, Tally};
+use fs_recovery::Numbers;
 use std::alloc::{AllocError, Global};
 use zb_model::StoreError;
 use zb_volume::{Area, StoreFault, Volume, write_and_sync};
@@ -53,24 +53,25 @@ fn put_start(text: &mut Vec<u8>, place: &Place, packed: bool) -> Result<(), Allo
 }
 
 /// Whether a pack has gone over the transaction of a tally; over none where there is no tally.
-fn is_packed_at(tallies: &[Tally], number: usize) -> bool
-    ensures { result ≡ option_map_or (λ x. x.packed) (slice_get tallies.now number) false }
+fn is_packed_at(numbers: &Numbers, number: usize) -> bool
+    ensures { result ≡ option_map_or (λ x. x.packed) (slice_get numbers.now.tallies number) false }
 {
-    match tallies.get(number) {
+    match numbers.tally(number) {
         Some(tally) => tally.packed,
         None => false,
     }
 }
 
 /// Puts the entries of transactions behind a text.
-fn put_starts(text: &mut Vec<u8>, places: &[Place], tallies: &[Tally]) -> Result<(), AllocError>
+fn put_starts(text: &mut Vec<u8>, places: &[Place], numbers: &Numbers) -> Result<(), AllocError>
     ensures text { OnOk result (text.new.items ≡ text.old.items
-        ++ flat_map start_text (starts_for places.now tallies.now)) }
-    ensures small { OnOk result (AllByRecursion IsSmallStart (starts_for places.now tallies.now)) }
+        ++ flat_map start_text (starts_for places.now numbers.now.tallies)) }
+    ensures small { OnOk result
+        (AllByRecursion IsSmallStart (starts_for places.now numbers.now.tallies)) }
 {
     let mut number = 0;
     'each: for place in places {
-        put_start(text, place, is_packed_at(tallies, number))?;
+        put_start(text, place, is_packed_at(numbers, number))?;
         number += 1;
     }
     Ok(())
@@ -100,9 +101,9 @@ fn put_records(text: &mut Vec<u8>, records: &[Placed]) -> Result<(), AllocError>
     Ok(())
 }
 
-/// All but the gate of the index file of an index and these tallies, up to an end.
-fn rest_of(alloc: Global, index: &Index, tallies: &[Tally], end: u64) -> Result<Vec<u8>, AllocError>
-    ensures { IfOk result (λ text. IsRestOf index.now tallies.now end text.items) }
+/// All but the gate of the index file of an index and these numbers, up to an end.
+fn rest_of(alloc: Global, index: &Index, numbers: &Numbers, end: u64) -> Result<Vec<u8>, AllocError>
+    ensures { IfOk result (λ text. IsRestOf index.now numbers.now.tallies end text.items) }
 {
     let records = index.records(alloc)?;
     let entries = records.as_slice();
@@ -111,7 +112,7 @@ fn rest_of(alloc: Global, index: &Index, tallies: &[Tally], end: u64) -> Result<
     put_number(&mut text, end)?;
     put_number(&mut text, starts.len() as u64)?;
     put_number(&mut text, entries.len() as u64)?;
-    put_starts(&mut text, starts, tallies)?;
+    put_starts(&mut text, starts, numbers)?;
     put_records(&mut text, entries)?;
     Ok(text)
 }
@@ -160,7 +161,7 @@ pub fn write_hint<V: Volume>(
         (V.state volume.new).log }
     ensures causes { WritesFor (V.state volume.old) (V.state volume.new) result }
 {
-    let Ok(rest) = rest_of(alloc, index, numbers.tallies(), end) else {
+    let Ok(rest) = rest_of(alloc, index, numbers, end) else {
         return Err(StoreError::Memory);
     };
     match put_file(volume, rest.as_slice()) {

@@ -1,123 +1,109 @@
 -- The numbers of a list, and what they say of it.
-use Rattle.std.proofs.Common.{◌≡◌, ℕ, zero, suc, ◌+◌, ◌-◌, ◌<◌, ◌≤◌, Bool, true, false, cond, leb, max, List, [], ◌∷◌, ◌++◌, length, get_or, map, filter, take, All, add-one, Option, Some, None, refl, sym, ap, subst, ◌∙◌, arith}
-use native.Mathlib.Numerals.{unary_clauses}
-use Rattle.std.specs.Prelude.{slice_get}
+use Rattle.std.proofs.Common.{◌≡◌, ℕ, zero, suc, ◌+◌, ◌-◌, ◌<◌, ◌≤◌, Bool, true, false, cond, leb, max, List, [], ◌∷◌, ◌++◌, length, get_or, map, filter, take, Option, Some, None, refl, sym, ap, ◌∙◌, arith}
+use Rattle.std.specs.Prelude.{slice_get, option_map}
 use Rattle.std.specs.List.{last_or, flat_map}
-use Rattle.std.specs.List.Sorted.{IsNonDecreasingBy, IsPartitionPoint, IsStrictlyIncreasing}
+use Rattle.std.specs.List.Sorted.{IsPartitionPoint}
 use Rattle.std.specs.Option.{option_map_or}
-use Rattle.std.proofs.lemmas.Bool.{lt-leb, leb-false}
 use Rattle.std.proofs.lemmas.Grind.{common_steps}
-use Rattle.std.proofs.lemmas.List.{map-append}
-use Rattle.std.proofs.lemmas.List.Elements.{filter-append, All-nil, All-cons, All-weaker}
+use Rattle.std.proofs.lemmas.List.{get_or-map, length-map, map-append}
+use Rattle.std.proofs.lemmas.List.Elements.{filter-append}
 use Rattle.std.proofs.lemmas.List.Sums.{sum_by-cons}
+use Rattle.std.proofs.lemmas.Option.{slice_get-map}
 use Rattle.zb_model.specs.declared.data.Transaction.{Transaction}
-use Rattle.zb_model.specs.Database.{IsDatabase}
+use Rattle.zb_model.specs.Packs.{change_count}
 use Rattle.zb_model.specs.Queries as queries
-use Rattle.zb_model.specs.Queries.{greatest_of, greatest_oid, oids_of, pack_point, changes_up_to, is_packed}
+use Rattle.zb_model.specs.Queries.{greatest_of, greatest_oid, oids_of, pack_point, is_packed}
 use Rattle.zb_model.specs.QueryLaws.{greatest-append}
+use Rattle.fs_index.specs.declared.place.Place.{Place}
 use Rattle.fs_recovery.specs.declared.tally.Tally.{Tally}
-use Rattle.fs_recovery.specs.Numbers.{tallies_from, total_of, is_tally_up_to, NumbersKept, AreNumbersOf}
-use Rattle.zb_base.specs.Lists.{filter_take, last_or_get, last_or_take}
+use Rattle.fs_recovery.specs.Numbers.{tallies_from, tally_of, total_of, NumbersKept, AreNumbersOf}
+use Rattle.zb_base.specs.Lists.{filter_take, last_or_get}
 
--- ---- the last one
+-- ---- what numbers keep
 
--- the last of a list, as it is read
-pub last_is : (xs : List Tally) → slice_get xs (length xs - 1) ≡ last_or None xs
-last_is xs = sym (last_or_get xs)
+-- the tally of a place is kept by the number there
+pub there_is : (ks : List ℕ) (i k : ℕ) → slice_get ks i ≡ Some k → Some (tally_of k) ≡ slice_get (map tally_of ks) i
+there_is ks i k e = sym (slice_get-map tally_of ks i ∙ ap (option_map tally_of) e)
 
--- ---- a search by halving
-
-abbrev Parts : ℕ → List Tally → ℕ → Type 0
-Parts tid xs n = IsPartitionPoint (λ x. is_tally_up_to tid x ≡ true) (λ x. is_tally_up_to tid x ≡ false) xs n
-
-filtered : (tid : ℕ) (xs : List Tally) (n : ℕ) → n ≤ length xs → Parts tid xs n → filter (is_tally_up_to tid) xs ≡ take n xs
-filtered tid xs n h parts = filter_take (is_tally_up_to tid) xs n (λ k d l. parts.0 k d (omega arith) l) (λ k d m l. parts.1 k d m l) h
-
-pub none_up_to : (tid : ℕ) (xs : List Tally) (n : ℕ) → n ≤ length xs → Parts tid xs n → n ≡ 0 → None ≡ last_or None (filter (is_tally_up_to tid) xs)
-none_up_to tid xs n h parts zero_is = sym (ap (λ (ys : List Tally). last_or None ys) (filtered tid xs n h parts ∙ ap (λ k. take k xs) zero_is))
-
-pub one_up_to : (tid : ℕ) (xs : List Tally) (n : ℕ) (d : Tally) → n ≤ length xs → Parts tid xs n → 0 < n → Some (get_or xs (n - 1) d) ≡ last_or None (filter (is_tally_up_to tid) xs)
-one_up_to tid xs n d h parts some =
-    let n_is : n ≡ suc (n - 1) = omega arith in
-    sym (ap (λ (ys : List Tally). last_or None ys) (filtered tid xs n h parts ∙ ap (λ k. take k xs) n_is) ∙ last_or_take None xs (n - 1) d (omega arith))
-
--- ---- what the last tally up to a tid says
-
-abbrev Rises : ℕ → List Transaction → Type 0
-Rises low [] = Unit {0}
-Rises low (t ∷ ts) = (low < t.tid) × Rises t.tid ts
-
-rises : (low : ℕ) (ts : List Transaction) → IsStrictlyIncreasing (low ∷ map (λ t. t.tid) ts) → Rises low ts
-rises low [] h = tt
-rises low (t ∷ ts) h = (h 0 (omega arith), rises t.tid ts (λ k l. rw add-one (simp unary_clauses at (h (suc k) (omega arith)))))
+pub none_is : (ks : List ℕ) (i : ℕ) → slice_get ks i ≡ None → None ≡ slice_get (map tally_of ks) i
+none_is ks i e = sym (slice_get-map tally_of ks i ∙ ap (option_map tally_of) e)
 
 abbrev changes_of : Option Tally → ℕ
 changes_of o = option_map_or (λ (x : Tally). x.changes) o 0
 
-counts : Transaction → ℕ
-counts t = length t.changes
+last_kept : (ks : List ℕ) (o : Option ℕ) → slice_get ks (length ks - 1) ≡ o → option_map tally_of o ≡ last_or None (map tally_of ks)
+last_kept ks o e =
+    let long : length (map tally_of ks) ≡ length ks = length-map ks tally_of in
+    sym (last_or_get (map tally_of ks) ∙ ap (λ (n : ℕ). slice_get (map tally_of ks) (n - 1)) long ∙ slice_get-map tally_of ks (length ks - 1) ∙ ap (option_map tally_of) e)
 
-record NoneUp (tid n : ℕ) (ts : List Transaction) : Type 0 where
-  tallies : filter (is_tally_up_to tid) (tallies_from n ts) ≡ []
-  list : filter (queries.is_up_to tid) ts ≡ []
+-- the last one is kept by the last number
+pub last_is : (ks : List ℕ) (k : ℕ) → slice_get ks (length ks - 1) ≡ Some k → (tally_of k).changes ≡ total_of (map tally_of ks)
+last_is ks k e = ap changes_of (last_kept ks (Some k) e)
 
-none_up : (tid n low : ℕ) (ts : List Transaction) → tid ≤ low → Rises low ts → NoneUp tid n ts
-none_up tid n low [] h r = record { tallies = refl; list = refl }
-none_up tid n low (t ∷ ts) h r =
-    let above : leb t.tid tid ≡ false = lt-leb _ _ (omega (arith, r.0)) in
-    let rest = none_up tid (n + length t.changes) t.tid ts (omega (arith, r.0)) r.1 in
-    record { tallies = rw above rest.tallies; list = rw above rest.list }
+pub no_last : (ks : List ℕ) → slice_get ks (length ks - 1) ≡ None → 0 ≡ total_of (map tally_of ks)
+no_last ks e = ap changes_of (last_kept ks None e)
 
-up_to : (tid n low x : ℕ) (p : Bool) (ts : List Transaction) → Rises low ts → changes_of (last_or (Some (record { tid = x; changes = n; packed = p })) (filter (is_tally_up_to tid) (tallies_from n ts))) ≡ n + changes_up_to tid ts
-up_to tid n low x p [] r = omega arith
-up_to tid n low x p (t ∷ ts) r = by_cases (leb t.tid tid) refl (up_to tid (n + length t.changes) t.tid t.tid t.packed ts r.1)
+-- ---- the first transactions
+
+abbrev Parts : ℕ → List Place → ℕ → Type 0
+Parts tid ps n = IsPartitionPoint (λ p. leb p.serial tid ≡ true) (λ p. leb p.serial tid ≡ false) ps n
+
+-- those up to a tid are the first ones of a list whose transactions have these places
+pub first_ones : (tid : ℕ) (ps : List Place) (n : ℕ) (list : List Transaction) → n ≤ length ps → Parts tid ps n → map (λ p. p.serial) ps ≡ map (λ t. t.tid) list → filter (queries.is_up_to tid) list ≡ take n list
+first_ones tid ps n list h parts same =
+    filter_take (queries.is_up_to tid) list n
+    (λ k d l. ap (λ (s : ℕ). leb s tid) (tid_there k d (omega (arith, l, h, long))) ∙ parts.0 k no_place (omega (arith, l)) (omega (arith, l, h)))
+    (λ k d m l. ap (λ (s : ℕ). leb s tid) (tid_there k d l) ∙ parts.1 k no_place m (omega (arith, l, long)))
+    (omega (arith, h, long))
   where
-    by_cases : (b : Bool) → leb t.tid tid ≡ b → changes_of (last_or (Some (record { tid = t.tid; changes = n + length t.changes; packed = t.packed })) (filter (is_tally_up_to tid) (tallies_from (n + length t.changes) ts))) ≡ n + length t.changes + changes_up_to tid ts
-        → changes_of (last_or (Some (record { tid = x; changes = n; packed = p })) (filter (is_tally_up_to tid) (tallies_from n (t ∷ ts)))) ≡ n + changes_up_to tid (t ∷ ts)
-    by_cases true e rest = rw e (rest ∙ omega (arith, sum_by-cons (λ (u : Transaction). length u.changes) t (filter (queries.is_up_to tid) ts)))
-    by_cases false e rest =
-        let lt : tid ≤ t.tid = omega (arith, leb-false _ _ e) in
-        let none = none_up tid (n + length t.changes) t.tid ts lt r.1 in
-        rw e (rw (none.tallies, none.list) (omega arith))
+    no_place : Place
+    no_place = record { serial = 0; at = 0 }
 
-from_none : (tid : ℕ) (xs : List Tally) → changes_of (last_or None xs) ≡ changes_of (last_or (Some (record { tid = 0; changes = 0; packed = false })) xs)
-from_none tid [] = refl
-from_none tid (x ∷ xs) = refl
+    long : length ps ≡ length list
+    long = sym (length-map ps (λ (p : Place). p.serial)) ∙ ap (λ (ns : List ℕ). length ns) same ∙ length-map list (λ (t : Transaction). t.tid)
 
--- the tallies of a list rise
-tallies_rise : (low n : ℕ) (ts : List Transaction) → Rises low ts → IsNonDecreasingBy (λ (x : Tally). x.tid) (tallies_from n ts) × All (λ (x : Tally). low ≤ x.tid) (tallies_from n ts)
-tallies_rise low n [] r = (λ i j d h l. absurd (omega arith), All-nil (λ (x : Tally). low ≤ x.tid))
-tallies_rise low n (t ∷ ts) r =
-    let rest = tallies_rise t.tid (n + length t.changes) ts r.1 in
-    let first : Tally = record { tid = t.tid; changes = n + length t.changes; packed = t.packed } in (
-      front first (tallies_from (n + length t.changes) ts) rest.0 rest.1,
-      All-cons (λ (x : Tally). low ≤ x.tid) first (tallies_from (n + length t.changes) ts) (omega (arith, r.0))
-          (All-weaker (λ (x : Tally). t.tid ≤ x.tid) (λ (x : Tally). low ≤ x.tid) (λ x h. omega (arith, h, r.0)) (tallies_from (n + length t.changes) ts) rest.1),
-    )
-  where
-    front : (x : Tally) (xs : List Tally) → IsNonDecreasingBy (λ (y : Tally). y.tid) xs → All (λ (y : Tally). x.tid ≤ y.tid) xs → IsNonDecreasingBy (λ (y : Tally). y.tid) (x ∷ xs)
-    front x xs rising above zero zero d h l = omega arith
-    front x xs rising above zero (suc j) d h l = above j d (omega arith)
-    front x xs rising above (suc i) zero d h l = absurd (omega arith)
-    front x xs rising above (suc i) (suc j) d h l = rising i j d (omega arith) (omega arith)
+    tid_there : (k : ℕ) (d : Transaction) → k < length list → (get_or list k d).tid ≡ (get_or ps k no_place).serial
+    tid_there k d l = sym (get_or-map (λ (t : Transaction). t.tid) list k d 0 l) ∙ ap (λ (ns : List ℕ). get_or ns k 0) (sym same) ∙ get_or-map (λ (p : Place). p.serial) ps k no_place 0 (omega (arith, l, long))
 
-pub up_to_is : (tid : ℕ) (list : List Transaction) (n : NumbersKept) (o : Option Tally) → IsDatabase list → AreNumbersOf list n → (IsNonDecreasingBy (λ x. x.tid) n.tallies → o ≡ last_or None (filter (is_tally_up_to tid) n.tallies)) → option_map_or (λ (x : Tally). x.changes) o 0 ≡ changes_up_to tid list
-up_to_is tid list n o database numbers is =
-    let rising : IsNonDecreasingBy (λ (x : Tally). x.tid) n.tallies =
-    subst (λ (xs : List Tally). IsNonDecreasingBy (λ (x : Tally). x.tid) xs) (sym numbers.tallies) (tallies_rise 0 0 list (rises 0 list database.rising)).0 in
-    ap changes_of (is rising ∙ ap (λ (xs : List Tally). last_or None (filter (is_tally_up_to tid) xs)) numbers.tallies)
-    ∙ from_none tid (filter (is_tally_up_to tid) (tallies_from 0 list))
-    ∙ up_to tid 0 0 0 false list (rises 0 list database.rising)
-    ∙ omega arith
+one_more : (t : Transaction) (ts : List Transaction) → change_count (t ∷ ts) ≡ length t.changes + change_count ts
+one_more t ts = sum_by-cons (λ (x : Transaction). length x.changes) t ts
+
+sums : (n a b : ℕ) → (n + a) + b ≡ n + (a + b)
+sums n a b = omega arith
+
+-- the tally of one of them says how many changes those up to it have
+at_place : (n k : ℕ) (ts : List Transaction) → k < length ts → changes_of (slice_get (tallies_from n ts) k) ≡ n + change_count (take (suc k) ts)
+at_place n k [] h = absurd (omega (arith, h))
+at_place n zero (t ∷ ts) h = omega (arith, one_more t [])
+at_place n (suc k) (t ∷ ts) h = at_place (n + length t.changes) k ts (omega (arith, h)) ∙ sums n (length t.changes) (change_count (take (suc k) ts)) ∙ ap (λ (m : ℕ). n + m) (sym (one_more t (take (suc k) ts)))
+
+pub first_counted : (list : List Transaction) (numbers : NumbersKept) (count : ℕ) (o : Option Tally) → 0 < count → count ≤ length list → AreNumbersOf list numbers → o ≡ slice_get numbers.tallies (count - 1) → changes_of o ≡ change_count (take count list)
+first_counted list numbers count o some within are is =
+    let n_is : suc (count - 1) ≡ count = omega arith in
+    ap changes_of (is ∙ ap (λ (xs : List Tally). slice_get xs (count - 1)) are.tallies)
+    ∙ at_place 0 (count - 1) list (omega (arith, some, within)) ∙ omega arith
+    ∙ ap (λ (n : ℕ). change_count (take n list)) n_is
+
+-- and the last says it of all
+all_from : (n : ℕ) (p : Bool) (ts : List Transaction) → changes_of (last_or (Some (record { changes = n; packed = p })) (tallies_from n ts)) ≡ n + change_count ts
+all_from n p [] = omega arith
+all_from n p (t ∷ ts) = all_from (n + length t.changes) t.packed ts ∙ sums n (length t.changes) (change_count ts) ∙ ap (λ (m : ℕ). n + m) (sym (one_more t ts))
+
+from_none : (xs : List Tally) → changes_of (last_or None xs) ≡ changes_of (last_or (Some (record { changes = 0; packed = false })) xs)
+from_none [] = refl
+from_none (x ∷ xs) = refl
+
+pub all_counted : (list : List Transaction) (numbers : NumbersKept) → AreNumbersOf list numbers → total_of numbers.tallies ≡ change_count list
+all_counted list numbers are = ap total_of are.tallies ∙ from_none (tallies_from 0 list) ∙ all_from 0 false list ∙ omega arith
 
 -- ---- one transaction more
 
-tallies-push : (n : ℕ) (ts : List Transaction) (t : Transaction) → tallies_from n (ts ++ t ∷ []) ≡ tallies_from n ts ++ record { tid = t.tid; changes = changes_of (last_or (Some (record { tid = 0; changes = n; packed = false })) (tallies_from n ts)) + length t.changes; packed = t.packed } ∷ []
+tallies-push : (n : ℕ) (ts : List Transaction) (t : Transaction) → tallies_from n (ts ++ t ∷ []) ≡ tallies_from n ts ++ record { changes = changes_of (last_or (Some (record { changes = n; packed = false })) (tallies_from n ts)) + length t.changes; packed = t.packed } ∷ []
 tallies-push n [] t = refl
-tallies-push n (u ∷ us) t = ap (λ (xs : List Tally). record { tid = u.tid; changes = n + length u.changes; packed = u.packed } ∷ xs) (tallies-push (n + length u.changes) us t ∙ same (tallies_from (n + length u.changes) us))
+tallies-push n (u ∷ us) t = ap (λ (xs : List Tally). record { changes = n + length u.changes; packed = u.packed } ∷ xs) (tallies-push (n + length u.changes) us t ∙ same (tallies_from (n + length u.changes) us))
   where
-    same : (xs : List Tally) → xs ++ record { tid = t.tid; changes = changes_of (last_or (Some (record { tid = 0; changes = n + length u.changes; packed = false })) xs) + length t.changes; packed = t.packed } ∷ []
-        ≡ xs ++ record { tid = t.tid; changes = changes_of (last_or (Some (record { tid = u.tid; changes = n + length u.changes; packed = u.packed })) xs) + length t.changes; packed = t.packed } ∷ []
+    same : (xs : List Tally) → xs ++ record { changes = changes_of (last_or (Some (record { changes = n + length u.changes; packed = false })) xs) + length t.changes; packed = t.packed } ∷ []
+        ≡ xs ++ record { changes = changes_of (last_or (Some (record { changes = n + length u.changes; packed = u.packed })) xs) + length t.changes; packed = t.packed } ∷ []
     same [] = refl
     same (x ∷ xs) = refl
 
@@ -138,11 +124,11 @@ point-push list t =
 
 -- the numbers with one transaction more, which has so many changes and this greatest object
 pub numbers-push : (list : List Transaction) (t : Transaction) (old new : NumbersKept) (m g : ℕ) → AreNumbersOf list old → length t.changes ≡ m → greatest_of (oids_of t) ≡ g
-    → new.tallies ≡ old.tallies ++ record { tid = t.tid; changes = total_of old.tallies + m; packed = t.packed } ∷ []
+    → new.tallies ≡ old.tallies ++ record { changes = total_of old.tallies + m; packed = t.packed } ∷ []
     → new.greatest ≡ max old.greatest g → new.pack_point ≡ cond t.packed (max old.pack_point t.tid) old.pack_point
     → AreNumbersOf (list ++ t ∷ []) new
 numbers-push list t old new m g numbers count most tallies greatest point =
-    let total : total_of old.tallies ≡ changes_of (last_or (Some (record { tid = 0; changes = 0; packed = false })) (tallies_from 0 list)) = ap total_of numbers.tallies ∙ from_none 0 (tallies_from 0 list) in
+    let total : total_of old.tallies ≡ changes_of (last_or (Some (record { changes = 0; packed = false })) (tallies_from 0 list)) = ap total_of numbers.tallies ∙ from_none (tallies_from 0 list) in
     record {
       tallies = tallies ∙ rw (total, numbers.tallies, sym count) (sym (tallies-push 0 list t));
       greatest = greatest ∙ rw (numbers.greatest, sym most) (sym (flat-push list t));

@@ -12,7 +12,7 @@ use Rattle.pack_copy.specs.Copying.{CopyKept}
 pub record HasRoomToKeep (c : CopyKept) (ready : Ready) : Type 0 where
   pub places : HasRoomFor c.index ready.records
   pub tally : 0 < c.numbers.room
-  pub total : total_of c.numbers.tallies + length ready.records < 2 ^ 64
+  pub total : total_of c.numbers.tallies + length ready.records < 2 ^ 63
 
 -- all but the room is the same
 pub record IsSame (old new : CopyKept) : Type 0 where

@@ -41,7 +41,7 @@ pub fn changes_of(numbers: &Numbers) -> u64
     ensures { (list : List Transaction) → IsDatabase list → AreNumbersOf list numbers.now
         → result ≡ change_count list }
 {
-    numbers.changes_to(Tid(u64::MAX))
+    numbers.changes()
 }
 
 impl CopyState {

@@ -12,9 +12,25 @@ use crate::state::{Extent, Item, State};
 use pickle_ops::{Op, Token};
 use std::alloc::Global;
 
-/// Makes a node, and pushes its number.
-#[inline(always)]
+/// Makes a node of what stands on the stack, and pushes its number.
+#[inline(never)]
 fn make_node<L: Kept>(state: &mut State<L>, at: usize, node: L) -> Result<(), PickleError>
+    ensures ok { OnOk result (make at node state.old ≡ Ok state.new) }
+    ensures err { IfErr result (λ e. RefusesAs e (make at node state.old)) }
+{
+    let count = state.nodes.len();
+    if count >= state.limit as usize {
+        return Err(PickleError::TooLarge { at });
+    }
+    state.nodes.push(node)?;
+    state.stack.push(Item::Value(count as u32))?;
+    Ok(())
+}
+
+/// Makes a node that a token makes by itself, and pushes its number. It does what [`make_node`]
+/// does, and has one caller so that it becomes a part of the loop over the tokens.
+#[inline(always)]
+fn make_leaf<L: Kept>(state: &mut State<L>, at: usize, node: L) -> Result<(), PickleError>
     ensures ok { OnOk result (make at node state.old ≡ Ok state.new) }
     ensures err { IfErr result (λ e. RefusesAs e (make at node state.old)) }
 {
@@ -254,7 +270,7 @@ pub fn take_step<L: Kept>(
     ensures err { IfErr result (λ e. RefusesAs e (step L.keeping token.op at token.number bytes.now state.old)) }
 {
     match L::leaf(alloc, token, bytes)? {
-        Some(node) => make_node(state, at, node),
+        Some(node) => make_leaf(state, at, node),
         None => act(alloc, state, token, at),
     }
 }

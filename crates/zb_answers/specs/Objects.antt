@@ -1,5 +1,5 @@
 -- Objects as answers show them, and keys and values by their spelling. Own.
-use Rattle.std.specs.Prelude.{ℕ, List, [], ◌∷◌, ◌++◌, length, Option, Some, None, Result, Ok, Err, codes, ◌==◌, if◌then◌else◌}
+use Rattle.std.specs.Prelude.{ℕ, ◌≡◌, Bool, true, false, List, [], ◌∷◌, ◌++◌, length, Option, Some, None, Result, Ok, Err, codes, ◌==◌, if◌then◌else◌}
 use Rattle.zb_ids.specs.Hex.{hex_text, hex_number}
 use Rattle.pickle_reading.specs.declared.error.PickleError.{PickleError}
 use Rattle.pickle_reading.specs.declared.reading.TheConstants.{NODE_LIMIT}
@@ -27,6 +27,11 @@ shown_text None serial bytes = codes "raw " ++ (hex_number serial ++ 32 ∷ hex_
 -- what `get` is answered: `object`, the serial, the class and the state; or `raw`, the serial and the digits
 abbrev pub object_answer : ℕ → List ℕ → List ℕ
 object_answer serial bytes = shown_text (record_print bytes) serial bytes
+
+-- whether that was put behind a text as an object; nothing is where the bytes are none
+abbrev pub IsPut : Bool → ℕ → List ℕ → List ℕ → List ℕ → Type 0
+IsPut true serial bytes before now = now ≡ before ++ object_answer serial bytes
+IsPut false serial bytes before now = (record_print bytes ≡ None) × (now ≡ before)
 
 -- a line of `show`: the serial, and the object as it is printed
 abbrev pub shown_line : ℕ → List ℕ → List ℕ

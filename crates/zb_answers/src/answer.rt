@@ -8,10 +8,11 @@ use crate::items::push_item_list;
 use crate::lists::{push_log, push_revision};
 use crate::objects::{push_key, push_object};
 use crate::refusal::push_refusal;
-use crate::spelling::{push_counted, push_digits, push_numbered};
+use crate::spelling::{push_counted, push_numbered};
 use btree_family::Item;
 use std::alloc::{AllocError, Global};
 use zb_ids::{ListOf, Oid, Text8, Tid};
+use zb_literals::push_digits;
 use zb_model::{LogLine, Refusal, Revision};
 use zb_script::Name;
 

@@ -4,11 +4,10 @@ ghost use Rattle.std.specs.Prelude.{◌≡◌, ◌++◌, OnOk};
 ghost use Rattle.std.specs.Fmt.{signed_decimal};
 ghost use Rattle.zb_script.specs.Keys.{key_literal};
 
-use crate::spelling::push_digits;
 use btree_family::Key;
 use itoa::Buffer;
 use std::alloc::AllocError;
-use zb_literals::push_text;
+use zb_literals::{push_digits, push_text};
 
 /// Puts a number in decimal digits at the end.
 fn push_signed(out: &mut Vec<u8>, number: i128) -> Result<(), AllocError>

@@ -2,33 +2,37 @@
 
 ghost use Rattle.std.specs.Prelude.{◌≡◌, ◌++◌, IfOk, OnOk};
 ghost use Rattle.zb_answers.specs.Objects;
-ghost use Rattle.zb_answers.specs.Objects.{key_text, object_answer, shown_line};
+ghost use Rattle.zb_answers.specs.Objects.{IsPut, key_text, object_answer, shown_line};
 
-use crate::spelling::{push_digits, push_number, push_numbered};
+use crate::spelling::{push_number, push_numbered};
 use pickle_reading::{PickleError, read_pickle};
 use pickle_writing::WriteError;
 use std::alloc::{AllocError, Global};
 use zb_ids::{Text8, Tid};
-use zb_literals::{record_literal, write_literal};
+use zb_literals::{push_digits, push_record_literal, write_literal};
 use zb_record::{RecordError, object_literal, read_record};
 
-/// The literals of the class and the state, or `None` where the bytes are no record or one that is too deep
-/// to write.
-fn record_print(alloc: Global, bytes: &[u8]) -> Result<Option<Text8>, AllocError>
-    ensures { IfOk result (λ text. text ≡ Objects.record_print bytes.now) }
+/// Puts a record at the end, `object`, its serial and the literals of its class and its state, and
+/// answers `true`; or puts nothing and answers `false` where the bytes are no record or one that is
+/// too deep to write.
+fn push_record(out: &mut Vec<u8>, serial: Tid, bytes: &[u8]) -> Result<bool, AllocError>
+    ensures { IfOk result (λ is. IsPut is serial bytes.now out.old.items out.new.items) }
 {
-    let object = match read_record(alloc, bytes) {
+    let object = match read_record(*out.allocator(), bytes) {
         Ok(object) => object,
         Err(RecordError::Memory) => return Err(AllocError),
-        Err(RecordError::Pickle(_)) => return Ok(None),
-        Err(RecordError::Rest { at: _ }) => return Ok(None),
-        Err(RecordError::BadClass) => return Ok(None),
+        Err(RecordError::Pickle(_)) => return Ok(false),
+        Err(RecordError::Rest { at: _ }) => return Ok(false),
+        Err(RecordError::BadClass) => return Ok(false),
     };
-    match record_literal(alloc, &object.class, &object.state) {
-        Ok(text) => Ok(Some(text)),
-        Err(WriteError::TooDeep) => Ok(None),
-        Err(WriteError::Memory) => Err(AllocError),
+    let length = out.len();
+    push_numbered(out, b"object ", serial.0)?;
+    out.push(b' ')?;
+    if push_record_literal(out, &object.class, &object.state)? {
+        return Ok(true);
     }
+    out.truncate(length);
+    Ok(false)
 }
 
 /// Puts an object at the end: `object`, its serial, its class and its state, or `raw`, its serial and two
@@ -36,18 +40,12 @@ fn record_print(alloc: Global, bytes: &[u8]) -> Result<Option<Text8>, AllocError
 pub(crate) fn push_object(out: &mut Vec<u8>, serial: Tid, bytes: &[u8]) -> Result<(), AllocError>
     ensures { OnOk result (out.new.items ≡ out.old.items ++ object_answer serial bytes.now) }
 {
-    match record_print(*out.allocator(), bytes)? {
-        Some(text) => {
-            push_numbered(out, b"object ", serial.0)?;
-            out.push(b' ')?;
-            out.extend_from_slice(text.as_slice())
-        }
-        None => {
-            push_numbered(out, b"raw ", serial.0)?;
-            out.push(b' ')?;
-            push_digits(out, bytes)
-        }
+    if push_record(out, serial, bytes)? {
+        return Ok(());
     }
+    push_numbered(out, b"raw ", serial.0)?;
+    out.push(b' ')?;
+    push_digits(out, bytes)
 }
 
 /// A line that shows an object, with its newline: the serial in sixteen digits, a blank, and the literals of

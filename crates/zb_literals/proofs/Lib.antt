@@ -1,4 +1,5 @@
 pub mod Digits
+pub mod Pieces
 pub mod Utf8
 pub mod PrintLaws
 pub mod PlainLaws

@@ -5,7 +5,8 @@ ghost use Rattle.zb_ids.specs.Hex.{hex_text};
 ghost use Rattle.zb_literals.specs.Values.{leaf_oid, leaf_global, digits_of};
 ghost use Rattle.zb_literals.specs.Printing.{bytes_parts, more_parts, more_pair_parts, tuple_marks, list_marks, dict_marks, act_marks, object_marks, made_text, oid_at, class_at, both_texts, pair_short, id_short, reference_parts, text_behind, short_print};
 
-use crate::texts::{push_digits, push_global};
+use crate::hexadecimal::push_digits;
+use crate::texts::push_global;
 use pickle_graph::{Act, Node};
 use std::alloc::{AllocError, Global};
 use zb_ids::ListOf;

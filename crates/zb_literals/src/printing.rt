@@ -1,15 +1,17 @@
 //! Literals of graphs.
 
-ghost use Rattle.std.specs.Prelude.{◌≡◌, ◌<◌, [], ◌∷◌, ◌++◌, length, slice_get, codes, decimal, is_some, IfOk, OnOk, None};
+ghost use Rattle.std.specs.Prelude.{◌≡◌, ◌<◌, ◌+◌, [], ◌∷◌, ◌++◌, length, slice_get, codes, decimal, is_some, IfOk, OnOk, None};
 ghost use Rattle.std.specs.Fmt.{signed_decimal};
 ghost use Rattle.zb_ids.specs.Hex.{hex_text};
 ghost use Rattle.pickle_writing.specs.Numbers.{number_of};
 ghost use Rattle.pickle_writing.specs.Spelling.{put_number, Writes};
+ghost use Rattle.pickle_writing.specs.declared.depth.TheConstants.{WALK_LIMIT};
 ghost use Rattle.zb_literals.specs.Printing.{behind_print, behind_text, first_print, id_short, leaf_print, literal_of, literal_parts, marked_print, parts_print, print_of, printed, reference_parts, text_behind};
 
+use crate::hexadecimal::push_digits;
 use crate::node_map::NodeMap;
 use crate::parts::{Part, dict, list, object, push_short, reference, tuple};
-use crate::texts::{push_bytes, push_digits, push_global, push_text};
+use crate::texts::{push_bytes, push_global, push_text};
 use itoa::Buffer;
 use pickle_graph::{Node, Pickle};
 use pickle_writing::{PutNumbers, WALK_LIMIT, WriteError, put_numbers};
@@ -265,6 +267,24 @@ pub fn write_literal(alloc: Global, pickle: &Pickle) -> Result<Text8, WriteError
     node_literal(alloc, pickle, pickle.root())
 }
 
+/// A text with the literal of a graph behind it, of which the put nodes are known.
+pub(crate) fn print_behind(
+    alloc: Global,
+    text: Text8,
+    pickle: &Pickle,
+    puts: &PutNumbers,
+) -> Result<Text8, AllocError>
+    ensures { IfOk result (λ all. all ≡ text ++ (print_of (WALK_LIMIT + 1) pickle.now.nodes puts.now pickle.now.root []).text) }
+{
+    let before = Printing {
+        text,
+        stood: NodeMap::new(alloc),
+    };
+    let root = pickle.root();
+    let printing = print_node(alloc, before, pickle.nodes(), puts, root, WALK_LIMIT + 1)?;
+    Ok(printing.text)
+}
+
 /// A text with the literal of a graph behind it: that of its root.
 pub(crate) fn literal_behind(
     alloc: Global,
@@ -274,11 +294,5 @@ pub(crate) fn literal_behind(
     ensures { Writes result (behind_text text (literal_of pickle.now.nodes pickle.now.root)) }
 {
     let puts = put_numbers(alloc, pickle, pickle.root())?;
-    let before = Printing {
-        text,
-        stood: NodeMap::new(alloc),
-    };
-    let root = pickle.root();
-    let printing = print_node(alloc, before, pickle.nodes(), &puts, root, WALK_LIMIT + 1)?;
-    Ok(printing.text)
+    Ok(print_behind(alloc, text, pickle, &puts)?)
 }

@@ -8,6 +8,7 @@ ghost use Rattle.zb_ids.specs.Hex.{hex_text};
 ghost use Rattle.zb_literals.specs.Texts.{bytes_text, character_text, global_text, name_byte_text, quoted_text, text_literal};
 ghost use Rattle.zb_literals.specs.Texts;
 
+use crate::hexadecimal::push_digits;
 use std::alloc::AllocError;
 use std::str;
 use zb_ids::hex_pair;
@@ -76,17 +77,6 @@ fn push_quoted(out: &mut Vec<u8>, text: &str) -> Result<(), AllocError>
     out.push(b'"')?;
     push_characters(out, text)?;
     out.push(b'"')?;
-    Ok(())
-}
-
-/// Puts two digits for each byte at the end.
-pub(crate) fn push_digits(out: &mut Vec<u8>, bytes: &[u8]) -> Result<(), AllocError>
-    ensures { OnOk result (out.new.items ≡ out.old.items ++ hex_text bytes.now) }
-{
-    out.reserve(bytes.len().saturating_mul(2))?;
-    for byte in bytes {
-        out.extend_from_slice(&hex_pair(*byte))?;
-    }
     Ok(())
 }
 

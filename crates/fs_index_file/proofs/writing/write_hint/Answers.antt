@@ -11,7 +11,7 @@ pub returns-in_default-clause-others : goal.returns-in_default-clause-others
 returns-in_default-clause-others g c = λ told other not. nothing_moved other (g.V.Volume.state c.args.volume.now).log (g.V.Volume.state c.args.volume.now).log refl
 
 pub returns-in-Ok-put_file-clause-any_moment : goal.returns-in-Ok-put_file-clause-any_moment
-returns-in-Ok-put_file-clause-any_moment g c = λ told is. written_leaves (seen (g.V.Volume.state c.args.volume.now).log Hint) c.in-Ok.rest.items c.as_slice.result.now c.args.index.now c.tallies.result.now c.args.numbers.now.tallies c.args.end (g.V.Volume.state c.args.volume.now).log (g.V.Volume.state c.put_file.new.volume).log c.as_slice.ensures.value c.tallies.ensures c.in-Ok.ensures (c.put_file.ensures.any_moment told is)
+returns-in-Ok-put_file-clause-any_moment g c = λ told is. written_leaves (seen (g.V.Volume.state c.args.volume.now).log Hint) c.in-Ok.rest.items c.as_slice.result.now c.args.index.now c.args.numbers.now.tallies c.args.numbers.now.tallies c.args.end (g.V.Volume.state c.args.volume.now).log (g.V.Volume.state c.put_file.new.volume).log c.as_slice.ensures.value refl c.in-Ok.ensures (c.put_file.ensures.any_moment told is)
 
 pub returns-clause-any_moment : goal.returns-clause-any_moment
-returns-clause-any_moment g c = λ told is. written_leaves (seen (g.V.Volume.state c.args.volume.now).log Hint) c.in-Ok.rest.items c.as_slice.result.now c.args.index.now c.tallies.result.now c.args.numbers.now.tallies c.args.end (g.V.Volume.state c.args.volume.now).log (g.V.Volume.state c.put_file.new.volume).log c.as_slice.ensures.value c.tallies.ensures c.in-Ok.ensures (c.put_file.ensures.any_moment told is)
+returns-clause-any_moment g c = λ told is. written_leaves (seen (g.V.Volume.state c.args.volume.now).log Hint) c.in-Ok.rest.items c.as_slice.result.now c.args.index.now c.args.numbers.now.tallies c.args.numbers.now.tallies c.args.end (g.V.Volume.state c.args.volume.now).log (g.V.Volume.state c.put_file.new.volume).log c.as_slice.ensures.value refl c.in-Ok.ensures (c.put_file.ensures.any_moment told is)

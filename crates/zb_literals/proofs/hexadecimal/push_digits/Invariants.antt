@@ -1,6 +1,6 @@
 use Rattle.std.proofs.Common.{◌≡◌, ◌++◌, length}
 use Rattle.zb_ids.specs.Hex.{hex_text}
-use Rattle.zb_answers.proofs.spelling.push_digits.Given as goal
+use Rattle.zb_literals.proofs.hexadecimal.push_digits.Given as goal
 
 -- what was put with the digits of what is left is what all comes to
 abbrev pub invariant-loop-rest : goal.invariant-loop-rest
