@@ -11,14 +11,14 @@ use Rattle.zb_model.specs.Queries.{first_after}
 use Rattle.zb_model.specs.Database.{revision_below}
 use Rattle.pack_reach.specs.declared.refusal.PackRefusal.{PackRefusal}
 use Rattle.pack_reach.specs.declared.refusal.PackRefusal.TheVariants as pack_refusal
-use Rattle.pack_reach.specs.Marking.{IsComplete, IsFollowed, IsMarkedWhole, IsMarking, IsPast, IsTransactionRead, KeepsMarks, MarkerState, with_mark}
+use Rattle.pack_reach.specs.Marking.{IsComplete, IsFollowed, IsMarkedWhole, IsMarking, IsPast, IsTransactionRead, KeepsMarks, MarkerState, MayMark, with_mark}
 use Rattle.pack_reach.specs.Outcomes.{IsAllMarked, IsLastTurn, IsMoreLeft, RefusesToMark, RefusesTurn, readable_as}
 use Rattle.pack_reach.specs.Packed.{marks_a_turn}
 use Rattle.pack_reach.specs.MemberLaws.{each_implies}
 use Rattle.pack_reach.specs.Reach.{is_in}
 use Rattle.pack_reach.specs.Reached.{reached}
 use Rattle.pack_reach.specs.ReachLaws.{is_all}
-use Rattle.pack_reach.proofs.Finishing.{answered, exactly_marked, refused, set_is}
+use Rattle.pack_reach.proofs.Finishing.{answered, exactly_marked, may_of, refused, set_is}
 use Rattle.pack_reach.proofs.Growing.{mark_there, transaction_carried}
 use Rattle.pack_reach.proofs.Seeing.{followed_carried}
 
@@ -110,11 +110,19 @@ counted_marking named list m n k = record {
 counted_complete : (list : List Transaction) (m : MarkerState) (n : ℕ) → IsComplete list m → IsComplete list (record m { counted = n })
 counted_complete list m n all = record { root = all.root; seen = all.seen; line = all.line }
 
-pub counted_whole : (named : List ℕ → Option (List ℕ)) (list : List Transaction) (m : MarkerState) (n : ℕ) → IsMarking named list m → IsComplete list m → m.unreadable ≡ None → IsMarkedWhole named list (record m { counted = n })
-counted_whole named list m n k all none = record { marks = counted_marking named list m n k; all = counted_complete list m n all; readable = none }
+-- a marker with no record that can't be read refuses none
+pub readable_none : (o : Option (ℕ × ℕ)) (x : Unit {0}) → readable_as o ≡ Ok x → o ≡ None
+readable_none None x e = refl
+readable_none (Some p) x e = absurd (cc)
 
-pub counted_all : (named : List ℕ → Option (List ℕ)) (list : List Transaction) (m : MarkerState) (n : ℕ) → IsMarking named list m → IsComplete list m → n ≡ len m.set → m.unreadable ≡ None → IsAllMarked named list (record m { counted = n }) n
-counted_all named list m n k all e none = answered named list (record m { counted = n }) n (counted_marking named list m n k) (counted_complete list m n all) e none
+pub counted_whole : (named : List ℕ → Option (List ℕ)) (list : List Transaction) (m : MarkerState) (n : ℕ) (x : Unit {0}) → IsMarking named list m → IsComplete list m → readable_as m.unreadable ≡ Ok x → IsMarkedWhole named list (record m { counted = n })
+counted_whole named list m n x k all e = record { marks = counted_marking named list m n k; all = counted_complete list m n all; readable = readable_none m.unreadable x e }
+
+pub counted_all : (named : List ℕ → Option (List ℕ)) (list : List Transaction) (m : MarkerState) (n : ℕ) (x : Unit {0}) → IsMarking named list m → IsComplete list m → n ≡ len m.set → readable_as m.unreadable ≡ Ok x → IsAllMarked named list (record m { counted = n }) n
+counted_all named list m n x k all e is = answered named list (record m { counted = n }) n (counted_marking named list m n k) (counted_complete list m n all) e (readable_none m.unreadable x is)
+
+pub counted_may : (named : List ℕ → Option (List ℕ)) (list : List Transaction) (m : MarkerState) (n : ℕ) → IsMarking named list m → MayMark named list (record m { counted = n })
+counted_may named list m n k = may_of named list (record m { counted = n }) (counted_marking named list m n k)
 
 -- more are marked than the limit, so more are reached
 pub more_left : (named : List ℕ → Option (List ℕ)) (list : List Transaction) (m : MarkerState) (before limit : ℕ) → IsMarking named list m → limit ≡ before + marks_a_turn → limit < len m.set → IsMoreLeft named list before m
@@ -133,10 +141,6 @@ last_turn named list m before limit k all l is =
     omega (arith, same, l, is)
 
 -- ---- whether all records can be read
-
-pub readable_none : (o : Option (ℕ × ℕ)) (x : Unit {0}) → readable_as o ≡ Ok x → o ≡ None
-readable_none None x e = refl
-readable_none (Some p) x e = absurd (cc)
 
 pub refuses_all : (named : List ℕ → Option (List ℕ)) (list : List Transaction) (m : MarkerState) (o : Option (ℕ × ℕ)) (why : PackRefusal) → IsMarking named list m → IsComplete list m → o ≡ m.unreadable → readable_as o ≡ Err why → RefusesToMark named list m why
 refuses_all named list m None why k all u e = absurd (cc)

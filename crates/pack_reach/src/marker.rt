@@ -424,34 +424,9 @@ impl Marker {
         Ok(())
     }
 
-    /// Marks all that is reached, or more objects than the limit, and answers how many are marked. Records
-    /// that can't be read are noted.
-    pub(crate) fn mark_reached<St: Store, F: Refs>(
-        &mut self,
-        alloc: Global,
-        store: &mut St,
-        refs: &F,
-        limit: u64,
-    ) -> Result<u64, StoreError>
-        requires whole { (St.state store.old).broken ≡ false }
-        ensures marks { St.told → IsMarking (F.named refs.now) (St.state store.old).list self.old
-            → IsMarking (F.named refs.now) (St.state store.old).list self.new }
-        ensures all { St.told → OnOk result
-            ((limit < set.len self.new.set) ⊎ IsComplete (St.state store.old).list self.new) }
-        ensures count { IfOk result (λ count. count ≡ set.len self.new.set) }
-        ensures bound { IfOk result (λ count. count < 2 ^ 63) }
-        ensures keeps { KeepsMarks self.old self.new }
-        ensures counted { self.new.counted ≡ self.old.counted }
-        ensures read { IsOnlyRead (St.state store.old) (St.state store.new) result }
-    {
-        self.mark(Oid(0))?;
-        self.mark_later(alloc, store, refs, limit)?;
-        self.follow_all(alloc, store, refs, limit)?;
-        Ok(self.count())
-    }
-
     /// Follows so many of the objects that wait, or all of them where there are fewer, and then marks all
-    /// that is reached, or more objects than the limit, and answers how many are marked.
+    /// that is reached, or more objects than the limit, and answers how many are marked. Records that can't
+    /// be read are noted.
     pub(crate) fn mark_ahead<St: Store, F: Refs>(
         &mut self,
         alloc: Global,
@@ -472,7 +447,10 @@ impl Marker {
         ensures read { IsOnlyRead (St.state store.old) (St.state store.new) result }
     {
         self.follow_some(alloc, store, refs, number)?;
-        self.mark_reached(alloc, store, refs, limit)
+        self.mark(Oid(0))?;
+        self.mark_later(alloc, store, refs, limit)?;
+        self.follow_all(alloc, store, refs, limit)?;
+        Ok(self.count())
     }
 }
 

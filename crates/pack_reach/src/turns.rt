@@ -83,7 +83,7 @@ impl Marker {
         ensures bound { IfOk result (λ count. count < 2 ^ 63) }
         ensures read { ReadsToMark (St.state store.old) (St.state store.new) result }
     {
-        let count = self.mark_reached(alloc, store, refs, u64::MAX)?;
+        let count = self.mark_ahead(alloc, store, refs, 0, u64::MAX)?;
         self.readable()?;
         self.counted = count;
         Ok(count)

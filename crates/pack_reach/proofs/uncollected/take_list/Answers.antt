@@ -1,4 +1,4 @@
-use Rattle.std.proofs.Common.{◌≡◌, ◌<◌, ℕ, Some, ◌∙◌, refl, sym, ap, subst, arith}
+use Rattle.std.proofs.Common.{◌≡◌, ℕ, ◌∙◌, refl, sym, ap, subst, arith}
 use Rattle.zb_model.specs.Queries.{first_tid_after, transaction_at}
 use Rattle.zb_model.specs.Stores.{StoreState}
 use Rattle.pack_reach.proofs.Overtaking.{read_then}

@@ -1,8 +1,8 @@
-use Rattle.std.proofs.Common.{◌≡◌, ℕ, Some, take, refl, sym, ap, ◌∙◌, arith}
+use Rattle.std.proofs.Common.{◌≡◌, sym, ap, ◌∙◌, arith}
 use Rattle.std.specs.Ordering.{nat_cmp}
 use Rattle.std.specs.FinSet.{FinSet, insert}
 use Rattle.zb_model.specs.Stores.{StoreState}
-use Rattle.pack_reach.specs.Uncollected.{with_change, with_changes}
+use Rattle.pack_reach.specs.Uncollected.{with_change}
 use Rattle.pack_reach.proofs.Overtaking.{read_then}
 use Rattle.pack_reach.proofs.Reading.{got, got_all, got_none, with_all, with_more}
 use Rattle.pack_reach.proofs.uncollected.take_objects.Goals as goal

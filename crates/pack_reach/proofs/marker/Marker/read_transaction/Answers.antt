@@ -1,9 +1,6 @@
-use Rattle.std.proofs.Common.{◌≡◌, ℕ, List, Option, Some, take, refl, sym, ap, subst, ◌∙◌, arith}
-use Rattle.std.specs.Prelude.{slice_get}
-use Rattle.zb_model.specs.declared.data.Transaction.{Transaction}
-use Rattle.zb_model.specs.Queries.{transaction_at}
+use Rattle.std.proofs.Common.{◌≡◌, ℕ, take, sym, ap, subst, ◌∙◌, arith}
 use Rattle.zb_model.specs.Stores.{StoreState}
-use Rattle.pack_reach.specs.Marking.{IsChangeRead, IsSound, MayReadChange, MayReadTransaction}
+use Rattle.pack_reach.specs.Marking.{IsChangeRead, MayReadChange}
 use Rattle.pack_reach.specs.MemberLaws.{each_implies}
 use Rattle.pack_reach.proofs.Growing.{change_kept, only_then, sound_then}
 use Rattle.pack_reach.proofs.Overtaking.{read_then}
