@@ -3,6 +3,7 @@ pub mod Keeping
 pub mod Rows
 pub mod Sorting
 pub mod StraightInners
+pub mod StraightLones
 pub mod StraightTexts
 pub mod Tried
 pub mod Writables

@@ -132,7 +132,7 @@ module _ (numbers : (oid : ℕ) → oid < 2 ^ 64 → oid_back oid ≡ oid) where
 
 -- ---- the whole
 
-same_tree : SameHoldsTheSame → (class : Class) (g copy : Graph) → AreSame g copy → tree_state_of class copy ≡ tree_state_of class g
+pub same_tree : SameHoldsTheSame → (class : Class) (g copy : Graph) → AreSame g copy → tree_state_of class copy ≡ tree_state_of class g
 same_tree law class g copy s = (law class s.whole copy s.second).1 ∙ sym (law class s.whole g s.first).1
 
 module _ (back : WrittenRecordReadsBack) (is_read : ReadIsRecord) (inner_law : WrittenInnerReadsBack) (alike : SameHoldsTheSame) (bucket_back : WrittenBucketReadsBack) (apart : LinkStandsApart) (spelled : InnerIsSpelled) (few : InnerMakesFew) (sound : InnerIsSound) (named : InnerIsNamed) where

@@ -146,7 +146,7 @@ value_self (Some text) = bytes_self text
 item_self : (item : Item) → same_item item item ≡ true
 item_self item = ap (λ b. b && same_value item.value item.value) (key_eq-equiv.refl item.key) ∙ value_self item.value
 
-items_self : (items : List Item) → same_items items items ≡ true
+pub items_self : (items : List Item) → same_items items items ≡ true
 items_self [] = refl
 items_self (item ∷ items) = ap (λ b. if b then same_items items items else false) (item_self item) ∙ items_self items
 

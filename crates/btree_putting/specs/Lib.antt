@@ -5,4 +5,5 @@ pub mod Puts
 pub mod Storing
 pub mod Straight
 pub mod StraightInner
+pub mod StraightLone
 pub mod Writing

@@ -26,10 +26,10 @@ use zb_ids::{Oid, Text8};
 use zb_record::{records_are_two_pickles, written_records_read_back};
 
 /// So many items make no more nodes than a pickle may have.
-const MOST_ITEMS: usize = 2_097_149;
+pub(crate) const MOST_ITEMS: usize = 2_097_149;
 
 /// Whether items have keys of one kind.
-fn are_of_one_kind(items: &[Item]) -> bool
+pub(crate) fn are_of_one_kind(items: &[Item]) -> bool
     ensures { result ≡ are_of_one_kind None (keys_of items.now) }
 {
     let mut before: Option<&Key> = None;
@@ -60,7 +60,7 @@ pub(crate) fn see_signed(key: &Key)
 }
 
 /// Keys that are numbers have 128 bits with a sign.
-fn see_all_signed(items: &[Item])
+pub(crate) fn see_all_signed(items: &[Item])
     ensures { AreSignedKeys (keys_of items.now) }
 {
     for item in items {

@@ -166,7 +166,7 @@ fn reads_as_tree(row: &ClassRow, own: &Pickle) -> bool
 }
 
 /// The class of a record as it is read back, where it is of the same class of BTrees, and that is the tree's.
-fn tree_back(
+pub(crate) fn tree_back(
     alloc: Global,
     row: &ClassRow,
     put: &Put,

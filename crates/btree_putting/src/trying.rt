@@ -18,6 +18,7 @@ use crate::kept::{Kept, KeptPuts};
 use crate::puts::{Put, Puts};
 use crate::straight::keep_straight;
 use crate::straight_inner::keep_inner;
+use crate::straight_lone::keep_lone;
 use crate::writing::{Family, node_writable, write_node};
 use btree_shapes::{Entry, Node, Shared, class_of, is_class_of, read_node};
 use bucket_state::StateError;
@@ -212,7 +213,7 @@ fn keep_known(alloc: Global, family: &Family, put: &Put) -> Result<Option<Writte
     match &put.node {
         Node::Leaf(_) => keep_straight(alloc, family, put),
         Node::Inner(_) => keep_inner(alloc, family, put),
-        Node::Lone(_) => Ok(None),
+        Node::Lone(_) => keep_lone(alloc, family, put),
     }
 }
 

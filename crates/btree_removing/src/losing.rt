@@ -5,9 +5,9 @@ ghost use Rattle.btree_putting.specs.Puts.{lone_node, inner_node};
 ghost use Rattle.btree_removing.specs.Losses.{put_rung, first_or, lose_head, lose_child, move_first, lose, raise, leaves_tree};
 
 use crate::items::cut_branch;
-use crate::rung::{Rung, Rungs};
+use crate::rung::Rung;
 use btree_family::{Bucket, Key};
-use btree_putting::{Put, Puts, with_branches};
+use btree_putting::{Put, Puts, Rungs, with_branches};
 use btree_shapes::{Node, Shared, place_for};
 use bucket_state::{Branch, Inner};
 use std::alloc::{AllocError, Global};
@@ -217,7 +217,7 @@ pub(crate) fn raise(
     alloc: Global,
     key: &Key,
     known: &Option<Oid>,
-    rungs: Rungs,
+    rungs: Rungs<Rung>,
     leaf: Put,
 ) -> Result<Puts, AllocError>
     ensures { IfOk result (λ puts. puts ≡ (raise key.now known.now rungs (leaves_tree leaf)).puts) }

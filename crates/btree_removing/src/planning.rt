@@ -12,10 +12,10 @@ ghost use Rattle.btree_removing.specs.Plans.{left_asked, puts_leaving, oids_leav
 use crate::bottom::{bottom_of, is_emptied, is_leaf, next_of};
 use crate::linking::{first_head, link_before};
 use crate::losing::raise;
-use crate::rung::{Rungs, rungs_of};
+use crate::rung::{Rung, rungs_of};
 use crate::sides::{Sides, Start, sides_of};
 use btree_family::Key;
-use btree_putting::{Put, Puts, in_order};
+use btree_putting::{Put, Puts, Rungs, in_order};
 use btree_shapes::{Found, Path, Rooted, Space, TreeError};
 use std::alloc::Global;
 
@@ -38,7 +38,7 @@ fn leave<S: Space>(
     space: &mut S,
     tree: &Rooted,
     key: &Key,
-    rungs: Rungs,
+    rungs: Rungs<Rung>,
     leaf: Put,
 ) -> Result<Puts, TreeError>
     requires rooted { IsRooted (S.contents space.old) tree.now }

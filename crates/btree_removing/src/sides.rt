@@ -3,8 +3,9 @@
 ghost use Rattle.std.specs.Prelude.{◌≡◌, ◌++◌, ◌∷◌, [], None, IfOk};
 ghost use Rattle.btree_removing.specs.Sides.{left_child, head_child, start_at, or_start, head_start, side, sides_of};
 
-use crate::rung::{Rung, Rungs};
+use crate::rung::Rung;
 use btree_family::Key;
+use btree_putting::Rungs;
 use btree_shapes::is_below;
 use bucket_state::{Branch, Inner};
 use std::alloc::{AllocError, Global};
@@ -140,7 +141,7 @@ fn one_down(alloc: Global, key: &Key, down: Down, rung: &Rung) -> Result<Down, A
 
 /// The nearest child to the left of a way, and the child that has to be read since it is the first one now.
 #[tactic(auto, using(crate::proofs::Siding::sides_start, crate::proofs::Siding::sides_step, crate::proofs::Siding::sides_end))]
-pub(crate) fn sides_of(alloc: Global, key: &Key, rungs: &Rungs) -> Result<Sides, AllocError>
+pub(crate) fn sides_of(alloc: Global, key: &Key, rungs: &Rungs<Rung>) -> Result<Sides, AllocError>
     ensures { IfOk result (λ sides. sides ≡ sides_of key.now rungs.now) }
 {
     let mut down = Down {

@@ -6,7 +6,8 @@ ghost use Rattle.btree_setting.specs.Changes.{AreDrawn, IsRootSet};
 use crate::bottom::Bottom;
 use crate::change::Change;
 use crate::growing::{Terms, grow_leaf, rise, rise_root};
-use crate::rung::Rungs;
+use crate::rung::Rung;
+use btree_putting::Rungs;
 use std::alloc::{AllocError, Global};
 use zb_ids::Oid;
 
@@ -16,7 +17,7 @@ fn climb(
     alloc: Global,
     terms: &Terms,
     bottom: &Bottom,
-    rungs: &Rungs,
+    rungs: &Rungs<Rung>,
     oids: &[Oid],
 ) -> Result<Change, AllocError>
     requires { 0 < length rungs.now }
@@ -39,7 +40,7 @@ pub(crate) fn plan(
     alloc: Global,
     terms: &Terms,
     bottom: &Bottom,
-    rungs: &Rungs,
+    rungs: &Rungs<Rung>,
     oids: &[Oid],
 ) -> Result<Change, AllocError>
     ensures set { IfOk result (λ change. IsRootSet terms.now bottom.now rungs.now change) }

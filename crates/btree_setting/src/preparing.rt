@@ -11,9 +11,10 @@ ghost use Rattle.btree_setting.specs.Tasks.{task_found, asked_found, splits, run
 
 use crate::bottom::{Bottom, End, Place, bottom_of};
 use crate::growing::leaf_grows;
-use crate::rung::{Rungs, rungs_of};
+use crate::rung::{Rung, rungs_of};
 use crate::settling::settle;
 use btree_family::Key;
+use btree_putting::Rungs;
 use btree_shapes::{Found, Rooted, Space, TreeError};
 use std::alloc::Global;
 use zb_ids::Text8;
@@ -31,7 +32,7 @@ pub struct Sizes {
 #[derive(Drop)]
 pub(crate) struct Task {
     pub bottom: Bottom,
-    pub rungs: Rungs,
+    pub rungs: Rungs<Rung>,
 }
 
 /// Whether a leaf below others is split.

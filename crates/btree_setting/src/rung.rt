@@ -1,15 +1,14 @@
 //! The objects above a leaf that is set, as far as a split goes up through them.
 
-ghost use Rattle.std.specs.Prelude.{◌≡◌, ◌++◌, ◌∷◌, [], ◌<◌, ◌/◌, length, slice_get, Some, IfOk, OnOk, MatchOption};
+ghost use Rattle.std.specs.Prelude.{◌≡◌, IfOk};
 ghost use Rattle.btree_setting.specs.Rungs.{child_asked, seam_child, seam_for, rungs_of, is_full};
 
 use btree_family::Key;
+use btree_putting::Rungs;
 use btree_shapes::{Path, Shared, Step, place_for};
 use bucket_state::{Branch, Inner};
 use pickle_graph::Pickle;
 use std::alloc::{AllocError, Global};
-use std::collections::VecDeque;
-use std::marker::Model;
 use zb_ids::Oid;
 
 /// What begins the second half of an object that is split.
@@ -32,70 +31,6 @@ pub(crate) struct Rung {
     pub inner: Shared<Inner>,
     pub leaves: bool,
     pub seam: Seam,
-}
-
-/// The objects on a way, from the root on.
-#[derive(Drop)]
-pub(crate) struct Rungs {
-    list: VecDeque<Rung>,
-}
-
-impl Model for Rungs {
-    ghost use Rattle.std.specs.Prelude.{List};
-    ghost use Rattle.btree_setting.specs.declared.rung.Rung.{Rung};
-
-    ghost Value = { List Rung };
-
-    ghost view = { λ rungs. rungs.list.items };
-}
-
-impl Rungs {
-    /// A way of no objects.
-    pub(crate) fn new(alloc: Global) -> Rungs
-        ensures { result ≡ [] }
-    {
-        Rungs {
-            list: VecDeque::new(alloc),
-        }
-    }
-
-    /// How many there are.
-    pub(crate) fn len(&self) -> usize
-        ensures { result ≡ length self.now }
-    {
-        self.list.len()
-    }
-
-    /// The one at a place.
-    pub(crate) fn at(&self, place: usize) -> &Rung
-        requires { place < length self.now }
-        ensures { slice_get self.now place ≡ Some result.now }
-    {
-        &self.list[place]
-    }
-
-    /// One more above the others.
-    pub(crate) fn put_above(&mut self, rung: Rung) -> Result<(), AllocError>
-        ensures { OnOk result (self.new ≡ rung ∷ self.old) }
-    {
-        self.list.push_front(rung)?;
-        Ok(())
-    }
-
-    /// One more below the others.
-    pub(crate) fn put_below(&mut self, rung: Rung) -> Result<(), AllocError>
-        ensures { OnOk result (self.new ≡ self.old ++ rung ∷ []) }
-    {
-        self.list.push_back(rung)?;
-        Ok(())
-    }
-
-    /// The highest one leaves.
-    pub(crate) fn take(&mut self) -> Option<Rung>
-        ensures { MatchOption result ((self.old ≡ []) × (self.new ≡ [])) (λ rung. self.old ≡ rung ∷ self.new) }
-    {
-        self.list.pop_front()
-    }
 }
 
 /// The child that is to be read, if there is one.
@@ -161,7 +96,7 @@ pub(crate) fn rungs_of(
     splits: bool,
     path: Path,
     leaf: Oid,
-) -> Result<Rungs, AllocError>
+) -> Result<Rungs<Rung>, AllocError>
     ensures { IfOk result (λ rungs. rungs ≡ rungs_of max key.now splits leaf path) }
 {
     let mut path = path;

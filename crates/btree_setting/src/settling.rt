@@ -8,9 +8,9 @@ ghost use Rattle.btree_shapes.specs.Met.{ReadsFirst};
 ghost use Rattle.btree_shapes.specs.Ways.{Answers, stands_in, reads};
 ghost use Rattle.btree_setting.specs.Rungs.{with_first, settled, settle, asked, asked_by};
 
-use crate::rung::{Rung, Rungs, Seam, child_asked};
+use crate::rung::{Rung, Seam, child_asked};
 use btree_family::Key;
-use btree_putting::first_below;
+use btree_putting::{Rungs, first_below};
 use btree_shapes::{Rooted, Space, TreeError};
 use std::alloc::Global;
 use zb_ids::{ListOf, Oid};
@@ -81,8 +81,8 @@ pub(crate) fn settle<S: Space>(
     tree: &Rooted,
     fits: bool,
     key: &Key,
-    rungs: Rungs,
-) -> Result<Rungs, TreeError>
+    rungs: Rungs<Rung>,
+) -> Result<Rungs<Rung>, TreeError>
     requires rooted { IsRooted (S.contents space.old) tree.now }
     ensures answer { Answers result
         (settle (objects_of (S.contents space.old) tree.now.root) fits key.now [] rungs) }

@@ -29,8 +29,9 @@ fn set_voted(work: &mut Option<OpenWork>)
 }
 
 impl Connection {
-    /// Votes on what waits. `NotOpen`, `NoTransaction` and `Voted` come first; other refusals are those of the vote, or
-    /// want of memory. What is refused leaves the transaction open, as it was and unvoted.
+    /// Votes on a copy of what waits, which is given to the loads. `NotOpen`, `NoTransaction` and `Voted` come first;
+    /// other refusals are those of the vote, or want of memory. What is refused leaves the transaction open, as it was
+    /// and unvoted: what waits is still there, and only the copy is dropped.
     #[tactic(auto, using(crate::proofs::Told::voting_in, crate::proofs::Waits::open_of_changeable))]
     pub fn vote<L: Loads>(
         &mut self,
@@ -61,7 +62,7 @@ impl Connection {
             Ok(parts) => parts,
         };
         self.asked.add_stores(stores.as_slice());
-        match loads.vote(user, description, stores.as_slice(), checks.as_slice()) {
+        match loads.vote(user, description, stores, checks) {
             Err(refusal) => Err(refusal),
             Ok(()) => {
                 set_voted(&mut self.work);

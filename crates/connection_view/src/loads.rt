@@ -1,6 +1,6 @@
 //! Where a connection reads from and commits to.
 
-use zb_ids::{Oid, Text8, Tid};
+use zb_ids::{ListOf, Oid, Text8, Tid};
 use zb_model::{News, PendingCheck, PendingStore, Refusal};
 
 /// What a front answers.
@@ -92,22 +92,23 @@ pub trait Loads {
         ensures makes { makes self.old (NewOid result) self.new }
         ensures place { place self.new ≡ place self.old };
 
-    /// Votes on stores, deletes and checks. Where it is refused, the session may hold a vote on them all the same, if the
-    /// way to the server failed.
+    /// Votes on stores, deletes and checks, which are given away: their bytes may go on without being copied, and where
+    /// the vote is refused, they are dropped. The session may hold a vote on them all the same, if the way to the server
+    /// failed.
     fn vote(
         &mut self,
         user: &Text8,
         description: &Text8,
-        stores: &[PendingStore],
-        checks: &[PendingCheck],
+        stores: ListOf<PendingStore>,
+        checks: ListOf<PendingCheck>,
     ) -> Result<(), Refusal>
         requires user { IsShortText user.now }
         requires description { IsShortText description.now }
-        requires stores { AreVotable stores.now }
-        ensures voted { (c : Client) → stands self.old c → stands self.new (voting (stored_in stores.now) c) }
+        requires stores { AreVotable stores }
+        ensures voted { (c : Client) → stands self.old c → stands self.new (voting (stored_in stores) c) }
         ensures refusal { IfErr result IsServerRefusal }
         ensures state { told → state self.new ≡ state self.old }
-        ensures makes { makes self.old (Vote user.now description.now stores.now checks.now result) self.new }
+        ensures makes { makes self.old (Vote user.now description.now stores checks result) self.new }
         ensures place { place self.new ≡ place self.old };
 
     /// Votes on undoing transactions. What that changes, no contract says.

@@ -39,6 +39,12 @@ waiting_all stores (p ∷ more) once =
     ∙ waiting_all (stores ++ p ∷ []) more (subst (λ (ps : List PendingStore). IsDistinct nat_eq (oids_of ps)) (sym one) once)
     ∙ one
 
--- stores of different objects, each behind those before it, wait as they stand
-pub all_wait : (stores : List PendingStore) → IsDistinct nat_eq (oids_of stores) → waiting_with [] stores ≡ stores
-all_wait stores once = waiting_all [] stores once
+-- stores of different objects, each behind those before it where none waits yet, wait as they stand
+pub all_wait : (none items stores : List PendingStore) → none ≡ [] → items ≡ stores → IsDistinct nat_eq (oids_of stores) → waiting_with none items ≡ stores
+all_wait none items stores empty is once =
+    ap (λ (ps : List PendingStore). waiting_with ps items) empty ∙ ap (λ (ps : List PendingStore). waiting_with [] ps) is ∙ waiting_all [] stores once
+
+-- the first of those that are left waits behind the others
+pub one_more_waits : (old new items left : List PendingStore) (p : PendingStore) (all : List PendingStore) → items ≡ p ∷ left → new ≡ with_pending old p → waiting_with old items ≡ all → waiting_with new left ≡ all
+one_more_waits old new items left p all is one rest =
+    ap (λ (ps : List PendingStore). waiting_with ps left) one ∙ sym (ap (λ (ps : List PendingStore). waiting_with old ps) is) ∙ rest

@@ -11,7 +11,7 @@ use crate::requests::{undo_request, vote_request};
 use crate::told::Told;
 use connection_view::{FrontView, Loaded, Loads};
 use std::alloc::Global;
-use zb_ids::{Oid, Text8, Tid};
+use zb_ids::{ListOf, Oid, Text8, Tid};
 use zb_model::{PendingCheck, PendingStore, Refs, Refusal, Resolver, Store};
 use zb_outside::Clock;
 use zodb_core::{Hub, Reply, Request};
@@ -136,8 +136,8 @@ impl<'h, 'c, St: Store, R: Resolver, F: Refs, C: Clock> Loads for LocalLoads<'h,
         &mut self,
         user: &Text8,
         description: &Text8,
-        stores: &[PendingStore],
-        checks: &[PendingCheck],
+        stores: ListOf<PendingStore>,
+        checks: ListOf<PendingCheck>,
     ) -> Result<(), Refusal> {
         let Ok(request) = vote_request(self.alloc, user, description, stores, checks) else {
             return Err(Refusal::Memory);

@@ -1,44 +1,27 @@
 //! The requests of votes and undos, which take memory.
 
-ghost use Rattle.std.specs.Prelude.{◌≡◌, [], IfOk, OnOk};
-ghost use Rattle.zb_model.specs.Database.{IsRecord};
-ghost use Rattle.commit_phases.specs.Pending.{with_pending};
+ghost use Rattle.std.specs.Prelude.{◌≡◌, [], IfOk};
 ghost use Rattle.connection_view.specs.Loading.{AreVotable, IsShortText};
 ghost use Rattle.zodb_core.specs.HubState.{IsFitting};
 
 use commit_phases::Pending;
 use std::alloc::{AllocError, Global};
 use zb_ids::{ListOf, Text8, Tid};
-use zb_model::{Content, PendingCheck, PendingStore};
+use zb_model::{PendingCheck, PendingStore};
 use zodb_core::Request;
 
-/// Puts a store or a delete behind the others. The one error is want of memory: no length passes a limit.
-fn put(pending: &mut Pending, store: &PendingStore) -> Result<(), AllocError>
-    requires record { IsRecord store.now.content }
-    ensures stores { OnOk result (pending.new.stores ≡ with_pending pending.old.stores store.now) }
-    ensures checks { pending.new.checks ≡ pending.old.checks }
-{
-    match &store.content {
-        Content::Held(bytes) => {
-            let bytes = bytes.clone()?;
-            if pending.store(store.oid, store.base, bytes).is_err() {
-                return Err(AllocError);
-            }
-            Ok(())
-        }
-        Content::Absent => pending.delete(store.oid, store.base),
-    }
-}
-
-/// Pending changes of these stores, without checks. The one error is want of memory: no length passes a limit.
-fn stores_of(alloc: Global, stores: &[PendingStore]) -> Result<Pending, AllocError>
-    requires stores { AreVotable stores.now }
-    ensures stores { IfOk result (λ pending. pending.stores ≡ stores.now) }
+/// Pending changes of these stores, without checks. Their bytes are moved, and none is copied. The
+/// one error is want of memory: no length passes a limit.
+fn stores_of(alloc: Global, stores: ListOf<PendingStore>) -> Result<Pending, AllocError>
+    requires stores { AreVotable stores }
+    ensures stores { IfOk result (λ pending. pending.stores ≡ stores) }
     ensures checks { IfOk result (λ pending. pending.checks ≡ []) }
 {
     let mut pending = Pending::new(alloc);
-    for store in stores {
-        put(&mut pending, store)?;
+    for store in stores.into_vec() {
+        let Ok(()) = pending.put(store) else {
+            return Err(AllocError);
+        };
     }
     Ok(pending)
 }
@@ -59,14 +42,14 @@ fn with_checks(pending: Pending, checks: &[PendingCheck]) -> Result<Pending, All
 /// Pending changes of these stores and checks. The one error is want of memory.
 fn pending_of(
     alloc: Global,
-    stores: &[PendingStore],
-    checks: &[PendingCheck],
+    stores: ListOf<PendingStore>,
+    checks: ListOf<PendingCheck>,
 ) -> Result<Pending, AllocError>
-    requires stores { AreVotable stores.now }
-    ensures { IfOk result (λ pending. pending ≡ record { stores = stores.now; checks = checks.now }) }
+    requires stores { AreVotable stores }
+    ensures { IfOk result (λ pending. pending ≡ record { stores = stores; checks = checks }) }
 {
     let pending = stores_of(alloc, stores)?;
-    with_checks(pending, checks)
+    with_checks(pending, checks.as_slice())
 }
 
 /// The same tids once more. The one error is want of memory.
@@ -77,19 +60,20 @@ fn copy_of(alloc: Global, tids: &[Tid]) -> Result<ListOf<Tid>, AllocError>
     Ok(ListOf::from_vec(tids))
 }
 
-/// The request of a vote, without an extension. The one error is want of memory.
+/// The request of a vote, without an extension. The bytes of the stores are moved into it. The one
+/// error is want of memory, and then they are dropped.
 pub(crate) fn vote_request(
     alloc: Global,
     user: &Text8,
     description: &Text8,
-    stores: &[PendingStore],
-    checks: &[PendingCheck],
+    stores: ListOf<PendingStore>,
+    checks: ListOf<PendingCheck>,
 ) -> Result<Request, AllocError>
     requires user { IsShortText user.now }
     requires description { IsShortText description.now }
-    requires stores { AreVotable stores.now }
+    requires stores { AreVotable stores }
     ensures request { IfOk result (λ q. q ≡ Request.Vote user.now description.now []
-        (record { stores = stores.now; checks = checks.now })) }
+        (record { stores = stores; checks = checks })) }
     ensures fitting { IfOk result IsFitting }
 {
     let user = user.clone()?;

@@ -1,5 +1,5 @@
 -- A transaction of Main is copied to Side.
-use Rattle.std.proofs.Common.{◌≡◌, ℕ, zero, suc, ◌+◌, ◌-◌, ◌<◌, ◌≤◌, ◌⊎◌, inl, inr, Bool, true, false, List, [], ◌∷◌, ◌++◌, length, get_or, map, take, drop, Option, Some, None, Result, Ok, Err, OnOk, refl, sym, ap, subst, ◌∙◌, arith}
+use Rattle.std.proofs.Common.{◌≡◌, ℕ, zero, suc, ◌+◌, ◌-◌, ◌^◌, ◌<◌, ◌≤◌, ◌⊎◌, All, inl, inr, Bool, true, false, List, [], ◌∷◌, ◌++◌, length, get_or, map, take, drop, Option, Some, None, Result, Ok, Err, OnOk, refl, sym, ap, subst, ◌∙◌, arith}
 use Rattle.std.specs.Prelude.{slice_get}
 use Rattle.std.specs.List.{cons_option, filter_map, last_or}
 use Rattle.std.specs.Option.{option_map_or}
@@ -22,7 +22,7 @@ use Rattle.zb_model.specs.Packs.{IsAllCopied, IsCopyTurn, IsPrefixOf, change_cou
 use Rattle.pack_copy.specs.CopiedLaws.{copied_list}
 use Rattle.pack_copy.specs.Copying.{CopyKept, IsCopied, IsSource, copied_in}
 use Rattle.pack_copy.specs.Filtering.{left_by}
-use Rattle.pack_copy.specs.UpTo.{AreShort, Ends, IsAllOrMore, IsBelowNext, IsCopiedUpTo, IsCountUpTo, IsSomeLeft}
+use Rattle.pack_copy.specs.UpTo.{AreShort, Ends, IsAllOrMore, IsBelowNext, IsCopiedUpTo, IsCountUpTo, IsNext, IsSomeLeft}
 use Rattle.pack_copy.proofs.Fronts.{database_rises, front_is, gone_over, later, left_more, left_next, left_parts, newest_same, some_left, tid_kept}
 use Rattle.pack_copy.proofs.Lefts.{left_is, source_begins, source_list}
 use Rattle.pack_copy.proofs.Short.{short_behind, turn_copies}
@@ -118,6 +118,14 @@ next_above xs all first i newest p same rising within is le =
     let there : get_or xs (first + i) p ≡ get_or xs (first + i) d = get_or_default xs (first + i) p d (omega arith) in
     let up = rising.serials (first + i) (first + (i + 1)) d (omega arith) w in
     omega (arith, le, up, ap (λ (x : Place). x.serial) (at ∙ there)))
+
+-- the first place behind those up to the last tid on Side
+pub next_of : (from : Kept) (kept : ℕ) (starts : List Place) (newest n : ℕ) → starts ≡ from.transactions → newest ≡ kept → IsCountUpTo starts newest n → All (λ p. p.serial < 2 ^ 64 - 1) from.transactions → IsNext from kept n
+next_of from kept starts newest n same is count bound = record {
+  within = omega (arith, count.within, ap length same);
+  above = subst (λ (ps : List Place). IsBelowNext ps kept n) same (λ d w. omega (arith, is, count.above n d (omega arith) w));
+  bound = bound;
+}
 
 -- all were gone over
 pub all_gone : (xs all : List Place) (first i : ℕ) → xs ≡ all → first ≤ length all → length (rest_of first xs) ≤ i → i ≤ length (rest_of first xs) → first + i ≡ length all

@@ -1,5 +1,5 @@
 -- How far a copy has come. Source: own.
-use Rattle.std.specs.Prelude.{◌≡◌, ℕ, ◌+◌, ◌<◌, ◌≤◌, ◌⊎◌, Bool, true, false, List, [], ◌∷◌, ◌++◌, length, take, slice_index_or}
+use Rattle.std.specs.Prelude.{◌≡◌, ℕ, ◌+◌, ◌<◌, ◌≤◌, ◌-◌, ◌^◌, ◌⊎◌, All, Bool, true, false, List, [], ◌∷◌, ◌++◌, length, take, slice_index_or}
 use Rattle.std.specs.List.{filter_map}
 use Rattle.std.specs.Ordering.{nat_cmp}
 use Rattle.std.specs.FinSet.{FinSet}
@@ -7,7 +7,10 @@ use Rattle.zb_model.specs.declared.data.Transaction.{Transaction}
 use Rattle.zb_model.specs.Packing.{packed_one}
 use Rattle.zb_model.specs.Packs.{change_count, changes_a_turn}
 use Rattle.fs_index.specs.declared.place.Place.{Place}
+use Rattle.fs_index.specs.Places.{Kept}
 use Rattle.fs_records.specs.Listed.{listed}
+use Rattle.pack_copy.specs.declared.extent.Extent.{Extent}
+use Rattle.pack_copy.specs.declared.extent.Extent.TheVariants.{Turn}
 use Rattle.pack_copy.specs.Copying.{CopyKept, IsCopied}
 
 -- on Side stands what is left of the first transactions of a list, so many
@@ -24,6 +27,12 @@ pub record IsCountUpTo (starts : List Place) (tid count : ℕ) : Type 0 where
 -- a tid isn't above the place with this number, if there is one
 abbrev pub IsBelowNext : List Place → ℕ → ℕ → Type 0
 IsBelowNext starts tid number = (d : Place) → number < length starts → tid ≤ (slice_index_or starts number d).serial
+
+-- a copy goes on with the place with this number, or is at the end: a tid isn't above it, and the number of each place is below 2^64 - 1
+pub record IsNext (from : Kept) (tid number : ℕ) : Type 0 where
+  pub within : number ≤ length from.transactions
+  pub above : IsBelowNext from.transactions tid number
+  pub bound : All (λ p. p.serial < 2 ^ 64 - 1) from.transactions
 
 -- something is left of a transaction behind the first ones, so many
 abbrev pub IsSomeLeft : ℕ → FinSet nat_cmp → List Transaction → ℕ → Type 0
@@ -53,3 +62,9 @@ AddsUnlessEnough false old new = (new ≡ old) ⊎ ((x : Transaction) × (new �
 -- behind a turn over these transactions, which had so many changes before it: whatever front the turn came by has fewer changes than a turn copies besides them
 abbrev pub AreShort : ℕ → List Transaction → List Transaction → Type 0
 AreShort before was now = (k : ℕ) → length was ≤ k → k < length now → change_count (take k now) < before + changes_a_turn
+
+-- a copy went on behind the first transactions of a list, so many, to the end or as far as it was to: what stood on Side before it, and what stands there now
+pub record Went (extent : Extent) (from : Kept) (keep : FinSet nat_cmp) (first : ℕ) (list : List Transaction) (was now : List ℕ) (c : CopyKept) (whole : Bool) : Type 0 where
+  pub ends : Ends list now c keep first (length from.transactions) whole
+  pub turn : (before : ℕ) → extent ≡ Turn before → whole ≡ false → before + changes_a_turn ≤ change_count (listed now)
+  pub short : (before : ℕ) → extent ≡ Turn before → AreShort before (listed was) (listed now)

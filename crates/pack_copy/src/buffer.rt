@@ -3,8 +3,9 @@
 ghost use Rattle.std.specs.Prelude.{◌≡◌, ◌+◌, ◌<◌, ◌≤◌, ◌^◌, ◌++◌, [], length, take, drop, IfOk, OnOk};
 ghost use Rattle.zb_base.specs.Bytes.{AreBytes};
 ghost use Rattle.zb_volume.specs.declared.areas.Area.{Area};
+ghost use Rattle.zb_volume.specs.declared.areas.Area.TheVariants.{Side};
 ghost use Rattle.zb_volume.specs.Disk.{main_bytes, seen};
-ghost use Rattle.zb_volume.specs.Moments.{StaysAs};
+ghost use Rattle.zb_volume.specs.States.{OthersStay};
 ghost use Rattle.pack_copy.specs.Appending.{IsAppended, IsAtEnd};
 ghost use Rattle.pack_copy.specs.Counting.{IsCopyCounted};
 
@@ -61,8 +62,7 @@ fn write_behind<V: Volume>(volume: &mut V, end: u64, text: &[u8]) -> Result<(), 
     ensures content { V.told → OnOk result (seen (V.state volume.new).log Area.Side
         ≡ seen (V.state volume.old).log Area.Side ++ text.now) }
     ensures limit { OnOk result (end + length text.now < 2 ^ 63) }
-    ensures main { V.told → StaysAs Area.Main (V.state volume.old).log (V.state volume.new).log }
-    ensures hint { V.told → StaysAs Area.Hint (V.state volume.old).log (V.state volume.new).log }
+    ensures others { V.told → OthersStay Side (V.state volume.old).log (V.state volume.new).log }
     ensures counts { IsCopyCounted (V.state volume.old) (V.state volume.new) result }
 {
     match volume.write_at(Area::Side, end, text) {
@@ -95,10 +95,8 @@ impl Buffer {
         ensures appended { V.told → OnOk result
             (IsAppended (V.state volume.old).log self.old (V.state volume.new).log self.new []) }
         ensures empty { OnOk result (self.new.bytes ≡ []) }
-        ensures main { V.told
-            → StaysAs Area.Main (V.state volume.old).log (V.state volume.new).log }
-        ensures hint { V.told
-            → StaysAs Area.Hint (V.state volume.old).log (V.state volume.new).log }
+        ensures others { V.told
+            → OthersStay Side (V.state volume.old).log (V.state volume.new).log }
         ensures counts { IsCopyCounted (V.state volume.old) (V.state volume.new) result }
     {
         write_behind(volume, self.end, &self.bytes[..self.held])?;
@@ -113,10 +111,8 @@ impl Buffer {
         ensures appended { V.told → OnOk result
             (IsAppended (V.state volume.old).log self.old (V.state volume.new).log self.new []) }
         ensures room { OnOk result (length self.new.bytes < 65536) }
-        ensures main { V.told
-            → StaysAs Area.Main (V.state volume.old).log (V.state volume.new).log }
-        ensures hint { V.told
-            → StaysAs Area.Hint (V.state volume.old).log (V.state volume.new).log }
+        ensures others { V.told
+            → OthersStay Side (V.state volume.old).log (V.state volume.new).log }
         ensures counts { IsCopyCounted (V.state volume.old) (V.state volume.new) result }
     {
         if self.held < PIECE {
@@ -173,10 +169,8 @@ impl Buffer {
         ensures appended { V.told
             → OnOk result (IsAppended (V.state volume.old).log self.old
             (V.state volume.new).log self.new bytes.now) }
-        ensures main { V.told
-            → StaysAs Area.Main (V.state volume.old).log (V.state volume.new).log }
-        ensures hint { V.told
-            → StaysAs Area.Hint (V.state volume.old).log (V.state volume.new).log }
+        ensures others { V.told
+            → OthersStay Side (V.state volume.old).log (V.state volume.new).log }
         ensures counts { IsCopyCounted (V.state volume.old) (V.state volume.new) result }
     {
         are_bytes(bytes);
@@ -202,10 +196,8 @@ impl Buffer {
         ensures appended { V.told → OnOk result
             (IsAppended (V.state volume.old).log self.old (V.state volume.new).log self.new
             (take count (drop at (main_bytes (V.state volume.old).log)))) }
-        ensures main { V.told
-            → StaysAs Area.Main (V.state volume.old).log (V.state volume.new).log }
-        ensures hint { V.told
-            → StaysAs Area.Hint (V.state volume.old).log (V.state volume.new).log }
+        ensures others { V.told
+            → OthersStay Side (V.state volume.old).log (V.state volume.new).log }
         ensures counts { IsCopyCounted (V.state volume.old) (V.state volume.new) result }
     {
         let mut done = 0;

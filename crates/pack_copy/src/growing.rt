@@ -1,9 +1,9 @@
 //! The file on Side grows by one transaction.
 
 ghost use Rattle.std.specs.Prelude.{◌≡◌, ◌-◌, ◌<◌, ◌≤◌, ◌^◌, ◌++◌, ◌∷◌, [], length, IfOk, OnOk};
-ghost use Rattle.zb_volume.specs.declared.areas.Area.{Area};
+ghost use Rattle.zb_volume.specs.declared.areas.Area.TheVariants.{Side};
 ghost use Rattle.zb_volume.specs.Disk.{main_bytes};
-ghost use Rattle.zb_volume.specs.Moments.{StaysAs};
+ghost use Rattle.zb_volume.specs.States.{OthersStay};
 ghost use Rattle.zb_model.specs.Database.{newest_tid};
 ghost use Rattle.fs_records.specs.Listed.{listed};
 ghost use Rattle.fs_recovery.specs.Opens.{newest_kept};
@@ -99,8 +99,7 @@ pub(crate) fn append<V: Volume>(
     ensures list { V.told → OnOk result (listed (with_held (V.state volume.new).log buffer.new)
         ≡ listed (with_held (V.state volume.old).log buffer.old)
         ++ outlined_transaction (main_bytes (V.state volume.old).log) outline.now ∷ []) }
-    ensures main { V.told → StaysAs Area.Main (V.state volume.old).log (V.state volume.new).log }
-    ensures hint { V.told → StaysAs Area.Hint (V.state volume.old).log (V.state volume.new).log }
+    ensures others { V.told → OthersStay Side (V.state volume.old).log (V.state volume.new).log }
     ensures newest { OnOk result (newest_kept to.new.index ≡ outline.now.tid) }
     ensures tid { to.new.tid ≡ to.old.tid }
     ensures counts { IsCopyCounted (V.state volume.old) (V.state volume.new) result }

@@ -5,6 +5,7 @@
 
 mod beginning;
 mod buffer;
+mod extent;
 mod filtering;
 mod growing;
 mod placing;

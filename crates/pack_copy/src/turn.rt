@@ -1,11 +1,13 @@
 //! A turn of a copy.
 
-ghost use Rattle.std.specs.Prelude.{◌≡◌, ℕ, ◌+◌, ◌-◌, ◌≤◌, ◌<◌, ◌^◌, Some, false, true, slice_get, length, All, IfOk, IsTrue, OnOk};
+ghost use Rattle.std.specs.Prelude.{◌≡◌, ℕ, ◌-◌, ◌≤◌, ◌<◌, ◌^◌, Some, false, true, slice_get, All, IfOk, OnOk};
 ghost use Rattle.zb_volume.specs.declared.areas.Area.{Area};
+ghost use Rattle.zb_volume.specs.declared.areas.Area.TheVariants.{Side};
 ghost use Rattle.zb_volume.specs.Disk.{seen};
 ghost use Rattle.zb_volume.specs.Moments.{StaysAs};
+ghost use Rattle.zb_volume.specs.States.{OthersStay};
 ghost use Rattle.zb_model.specs.Packing.{packed_by};
-ghost use Rattle.zb_model.specs.Packs.{IsCopyTurn, IsPrefixOf, change_count, changes_a_turn};
+ghost use Rattle.zb_model.specs.Packs.{IsCopyTurn, IsPrefixOf};
 ghost use Rattle.fs_records.specs.Listed.{listed, reached_in};
 ghost use Rattle.fs_index.specs.Places.{IsRising};
 ghost use Rattle.fs_records.specs.Blocks.{Reached, Begins};
@@ -14,11 +16,12 @@ ghost use Rattle.fs_recovery.specs.Opens.{newest_kept};
 ghost use Rattle.fs_reading.specs.Outlines.{AllStandWithin, IsOutline, outlined_transaction};
 ghost use Rattle.pack_copy.specs.Appending.{IsAtEnd, with_held};
 ghost use Rattle.pack_copy.specs.Copying.{IsCopied, IsSource, copied_in};
-ghost use Rattle.pack_copy.specs.UpTo.{AddsUnlessEnough, AreShort, Ends, GoesOn, IsBelowNext, IsCopiedUpTo, IsCountUpTo};
+ghost use Rattle.pack_copy.specs.UpTo.{AddsUnlessEnough, GoesOn, IsCopiedUpTo, IsCountUpTo, IsNext, Went};
 ghost use Rattle.pack_copy.specs.InFull.{full_file};
 ghost use Rattle.pack_copy.specs.Counting.{IsCopyCounted};
 
 use crate::buffer::Buffer;
+use crate::extent::{Extent, is_over};
 use crate::filtering::left_of;
 use crate::growing::append;
 use crate::state::CopyState;
@@ -70,32 +73,6 @@ fn read_at<V: Volume>(alloc: Global, volume: &mut V, start: Place) -> Result<Out
     Ok(with_tid(outline, tid))
 }
 
-/// A turn ends once it has copied so many changes.
-const CHANGES_A_TURN: u64 = 64;
-
-/// How far a copy goes on.
-#[derive(Clone, Copy)]
-enum Extent {
-    /// Until that many changes more are copied than these.
-    Turn(u64),
-    /// To the end.
-    Rest,
-}
-
-/// Whether a turn has copied enough, where so many changes are copied in all.
-fn is_over(extent: Extent, changes: u64) -> bool
-    ensures turn { (before : ℕ) → extent ≡ Extent.Turn before → IsTrue result
-        → before + changes_a_turn ≤ changes }
-    ensures early { (before : ℕ) → extent ≡ Extent.Turn before → result ≡ false
-        → changes < before + changes_a_turn }
-    ensures rest { extent ≡ Extent.Rest → result ≡ false }
-{
-    match extent {
-        Extent::Turn(before) => changes.saturating_sub(before) >= CHANGES_A_TURN,
-        Extent::Rest => false,
-    }
-}
-
 /// Puts what is left of the transaction at a place of Main behind Side and what is held, where all
 /// transactions before it were gone over, unless a turn has copied enough. The answer is whether it was
 /// gone over: something is left of one that wasn't.
@@ -132,8 +109,7 @@ fn copy_one<V: Volume>(
     ensures tid { to.new.tid ≡ to.old.tid }
     ensures unmoved { IfOk result (λ over. over ≡ false → ((V.state volume.new).log
         ≡ (V.state volume.old).log) × (buffer.new ≡ buffer.old) × (to.new ≡ to.old)) }
-    ensures main { V.told → StaysAs Area.Main (V.state volume.old).log (V.state volume.new).log }
-    ensures hint { V.told → StaysAs Area.Hint (V.state volume.old).log (V.state volume.new).log }
+    ensures others { V.told → OthersStay Side (V.state volume.old).log (V.state volume.new).log }
     ensures counts { IsCopyCounted (V.state volume.old) (V.state volume.new) result }
 {
     let outline = read_at(alloc, volume, start)?;
@@ -162,29 +138,19 @@ fn copy_each<V: Volume>(
     first: usize,
     extent: Extent,
 ) -> Result<bool, StoreError>
-    requires within { first ≤ length from.now.transactions }
-    requires above { IsBelowNext from.now.transactions (newest_kept to.old.index) first }
-    requires bound { All (λ p. p.serial < 2 ^ 64 - 1) from.now.transactions }
+    requires next { IsNext from.now (newest_kept to.old.index) first }
     requires source { V.told → IsSource (seen (V.state volume.old).log Area.Main) from.now }
     requires side { V.told → IsAtEnd (V.state volume.old).log buffer.old }
     requires up_to { V.told → IsCopiedUpTo (listed (seen (V.state volume.old).log Area.Main))
         (with_held (V.state volume.old).log buffer.old) to.old keep.now first }
     ensures side { V.told → OnOk result (IsAtEnd (V.state volume.new).log buffer.new) }
-    ensures ends { V.told
-        → IfOk result (Ends (listed (seen (V.state volume.old).log Area.Main))
-        (with_held (V.state volume.new).log buffer.new) to.new keep.now first
-        (length from.now.transactions)) }
-    ensures turn { V.told → (before : ℕ) → extent ≡ Extent.Turn before
-        → IfOk result (λ whole. whole ≡ false
-        → before + changes_a_turn ≤ change_count
-        (listed (with_held (V.state volume.new).log buffer.new))) }
-    ensures short { V.told → (before : ℕ) → extent ≡ Extent.Turn before
-        → OnOk result (AreShort before (listed (with_held (V.state volume.old).log buffer.old))
-        (listed (with_held (V.state volume.new).log buffer.new))) }
+    ensures went { V.told → IfOk result (Went extent from.now keep.now first
+        (listed (seen (V.state volume.old).log Area.Main))
+        (with_held (V.state volume.old).log buffer.old)
+        (with_held (V.state volume.new).log buffer.new) to.new) }
     ensures rest { extent ≡ Extent.Rest → IfOk result (λ whole. whole ≡ true) }
     ensures tid { to.new.tid ≡ to.old.tid }
-    ensures main { V.told → StaysAs Area.Main (V.state volume.old).log (V.state volume.new).log }
-    ensures hint { V.told → StaysAs Area.Hint (V.state volume.old).log (V.state volume.new).log }
+    ensures others { V.told → OthersStay Side (V.state volume.old).log (V.state volume.new).log }
     ensures counts { IsCopyCounted (V.state volume.old) (V.state volume.new) result }
 {
     let starts = from.transactions();
@@ -211,27 +177,17 @@ fn copy_from<V: Volume>(
     first: usize,
     extent: Extent,
 ) -> Result<bool, StoreError>
-    requires within { first ≤ length from.now.transactions }
-    requires above { IsBelowNext from.now.transactions (newest_kept to.old.index) first }
-    requires bound { All (λ p. p.serial < 2 ^ 64 - 1) from.now.transactions }
+    requires next { IsNext from.now (newest_kept to.old.index) first }
     requires source { V.told → IsSource (seen (V.state volume.old).log Area.Main) from.now }
     requires up_to { V.told → IsCopiedUpTo (listed (seen (V.state volume.old).log Area.Main))
         (seen (V.state volume.old).log Area.Side) to.old keep.now first }
-    ensures ends { V.told
-        → IfOk result (Ends (listed (seen (V.state volume.old).log Area.Main))
-        (seen (V.state volume.new).log Area.Side) to.new keep.now first
-        (length from.now.transactions)) }
-    ensures turn { V.told → (before : ℕ) → extent ≡ Extent.Turn before
-        → IfOk result (λ whole. whole ≡ false
-        → before + changes_a_turn ≤ change_count
-        (listed (seen (V.state volume.new).log Area.Side))) }
-    ensures short { V.told → (before : ℕ) → extent ≡ Extent.Turn before
-        → OnOk result (AreShort before (listed (seen (V.state volume.old).log Area.Side))
-        (listed (seen (V.state volume.new).log Area.Side))) }
+    ensures went { V.told → IfOk result (Went extent from.now keep.now first
+        (listed (seen (V.state volume.old).log Area.Main))
+        (seen (V.state volume.old).log Area.Side)
+        (seen (V.state volume.new).log Area.Side) to.new) }
     ensures rest { extent ≡ Extent.Rest → IfOk result (λ whole. whole ≡ true) }
     ensures tid { to.new.tid ≡ to.old.tid }
-    ensures main { V.told → StaysAs Area.Main (V.state volume.old).log (V.state volume.new).log }
-    ensures hint { V.told → StaysAs Area.Hint (V.state volume.old).log (V.state volume.new).log }
+    ensures others { V.told → OthersStay Side (V.state volume.old).log (V.state volume.new).log }
     ensures counts { IsCopyCounted (V.state volume.old) (V.state volume.new) result }
 {
     let mut buffer = Buffer::new(alloc)?;

@@ -2,9 +2,9 @@
 
 ghost use Rattle.std.specs.Prelude.{◌≡◌, ◌+◌, ◌<◌, ◌^◌, ◌++◌, ◌-◌, length, map, if◌then◌else◌, OnOk};
 ghost use Rattle.std.specs.List.{AllByRecursion, last_or};
-ghost use Rattle.zb_volume.specs.declared.areas.Area.{Area};
+ghost use Rattle.zb_volume.specs.declared.areas.Area.TheVariants.{Side};
 ghost use Rattle.zb_volume.specs.Disk.{main_bytes};
-ghost use Rattle.zb_volume.specs.Moments.{StaysAs};
+ghost use Rattle.zb_volume.specs.States.{OthersStay};
 ghost use Rattle.fs_records.specs.Blocks.{block_text, payload_text, record_text, records_text};
 ghost use Rattle.fs_records.specs.HeaderLaws.{IsDataHeader};
 ghost use Rattle.fs_records.specs.Headers.{header_text};
@@ -24,7 +24,7 @@ use fs_records::{
 };
 use zb_ids::Tid;
 use zb_model::StoreError;
-use zb_volume::{Area, Volume};
+use zb_volume::Volume;
 
 /// The status of a transaction in a file.
 fn status_of(packed: bool) -> u8
@@ -81,8 +81,7 @@ fn put_payload<V: Volume>(
         (V.state volume.new).log buffer.new
         (payload_text (full_payload
         (outlined_content (main_bytes (V.state volume.old).log) source)))) }
-    ensures main { V.told → StaysAs Area.Main (V.state volume.old).log (V.state volume.new).log }
-    ensures hint { V.told → StaysAs Area.Hint (V.state volume.old).log (V.state volume.new).log }
+    ensures others { V.told → OthersStay Side (V.state volume.old).log (V.state volume.new).log }
     ensures counts { IsCopyCounted (V.state volume.old) (V.state volume.new) result }
 {
     match source {
@@ -114,8 +113,7 @@ fn put_record<V: Volume>(
         (record_in places.now.entries (main_bytes (V.state volume.old).log) change.now))) }
     ensures room { V.told → OnOk result
         (HasRoom (record_in places.now.entries (main_bytes (V.state volume.old).log) change.now)) }
-    ensures main { V.told → StaysAs Area.Main (V.state volume.old).log (V.state volume.new).log }
-    ensures hint { V.told → StaysAs Area.Hint (V.state volume.old).log (V.state volume.new).log }
+    ensures others { V.told → OthersStay Side (V.state volume.old).log (V.state volume.new).log }
     ensures counts { IsCopyCounted (V.state volume.old) (V.state volume.new) result }
 {
     let header = DataHeader {
@@ -149,8 +147,7 @@ fn put_records<V: Volume>(
         (map (record_in places.now.entries (main_bytes (V.state volume.old).log)) changes.now))) }
     ensures room { V.told → OnOk result (AllByRecursion HasRoom
         (map (record_in places.now.entries (main_bytes (V.state volume.old).log)) changes.now)) }
-    ensures main { V.told → StaysAs Area.Main (V.state volume.old).log (V.state volume.new).log }
-    ensures hint { V.told → StaysAs Area.Hint (V.state volume.old).log (V.state volume.new).log }
+    ensures others { V.told → OthersStay Side (V.state volume.old).log (V.state volume.new).log }
     ensures counts { IsCopyCounted (V.state volume.old) (V.state volume.new) result }
 {
     'record: for change in changes {
@@ -171,8 +168,7 @@ fn put_head<V: Volume>(
         (IsAppended (V.state volume.old).log buffer.old (V.state volume.new).log buffer.new
         (header_text header.now
         ++ (outline.now.user ++ (outline.now.description ++ outline.now.extension)))) }
-    ensures main { V.told → StaysAs Area.Main (V.state volume.old).log (V.state volume.new).log }
-    ensures hint { V.told → StaysAs Area.Hint (V.state volume.old).log (V.state volume.new).log }
+    ensures others { V.told → OthersStay Side (V.state volume.old).log (V.state volume.new).log }
     ensures counts { IsCopyCounted (V.state volume.old) (V.state volume.new) result }
 {
     buffer.put(volume, &write_header(header))?;
@@ -206,8 +202,7 @@ pub(crate) fn put_block<V: Volume>(
         → OnOk result (AllByRecursion HasRoom
         (map (record_in places.now.entries
         (main_bytes (V.state volume.old).log)) outline.now.changes)) }
-    ensures main { V.told → StaysAs Area.Main (V.state volume.old).log (V.state volume.new).log }
-    ensures hint { V.told → StaysAs Area.Hint (V.state volume.old).log (V.state volume.new).log }
+    ensures others { V.told → OthersStay Side (V.state volume.old).log (V.state volume.new).log }
     ensures counts { IsCopyCounted (V.state volume.old) (V.state volume.new) result }
 {
     let length = end - 8 - at;

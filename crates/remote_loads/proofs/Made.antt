@@ -1,5 +1,5 @@
 -- Calls that are made, of the messages that they are made of.
-use Rattle.std.proofs.Common.{◌≡◌, ◌<◌, ◌≤◌, ℕ, true, false, List, Option, Some, None, Result, Ok, Err, refl, sym, subst}
+use Rattle.std.proofs.Common.{◌≡◌, ◌<◌, ◌≤◌, ℕ, true, false, List, Option, Some, None, Result, Ok, Err, map, refl, sym, subst}
 use Rattle.std.specs.Prelude.{is_ok}
 use Rattle.zb_model.specs.declared.pending.PendingCheck.{PendingCheck}
 use Rattle.zb_model.specs.declared.pending.PendingStore.{PendingStore}
@@ -17,20 +17,32 @@ use Rattle.zeo_messages.specs.Calls.{fits_call, is_falling}
 use Rattle.zeo_values.specs.Values.{AreIds}
 use Rattle.zeo_desk.specs.Desks.{DeskState}
 use Rattle.zeo_cache.specs.Intervals.{HoldsSame}
-use Rattle.zeo_client.specs.Asking.{IsTooLong, call_frames, call_length, number_behind, vote_calls}
+use Rattle.zeo_client.specs.Asking.{IsTooLong, call_frames, call_length, check_call, number_behind, store_call, vote_calls}
 use Rattle.zeo_client.specs.Renewing.{HoldsUnless, IsAskedBeside, IsButCache, found_known, standing_as}
 use Rattle.zeo_client.specs.Taking.{ClientState}
 use Rattle.zeo_serving.specs.Serving.{asks_for}
 use Rattle.remote_loads.specs.Answers.{count_answer, done_answer, finish_answer, load_answer, tid_answer}
 use Rattle.remote_loads.specs.Causes.{IsUndoRefused, behind_commit}
 use Rattle.remote_loads.specs.Finishing.{IsDropped, IsFinishMade, IsToldBehind, asks_nothing, finish_commits, finish_empty, finish_refused, told_behind}
-use Rattle.remote_loads.specs.Making.{AreHeld, IsLoadMade, IsMadeBy, IsUndoMade, IsVoteMade, asks_all, free_if_done, hit, left_alone, made_by, miss, no_room, undo_asked, undo_unasked, vote_sent, vote_unsent, waiting_for_vote}
+use Rattle.remote_loads.specs.Making.{AreHeld, IsAskedFor, IsLoadMade, IsMadeBy, IsUndoMade, IsVoteMade, IsVoteSpelled, asks_all, free_if_done, hit, left_alone, made_by, miss, no_room, undo_asked, undo_unasked, vote_sent, vote_unsent, waiting_for_vote}
 use Rattle.remote_loads.specs.Registering.{IsRegistered, register_refused, register_synced}
 use Rattle.remote_loads.specs.Talking.{IsAsked, Talks}
+use Rattle.remote_loads.proofs.Numbers.{vote_held}
 
 -- a call that is so long doesn't fit
 pub too_long : (call : Call) (n : ℕ) → n ≡ call_length call → FRAME_LIMIT < n → IsTooLong call n
 too_long call n is above = record { long = sym is; above = above }
+
+-- the messages of a vote are spelled by a client that has asked for it
+pub vote_spelled : (user description : List ℕ) (to_store stores : List PendingStore) (to_check checks : List PendingCheck) (old mid new : ClientState) (text : List ℕ) → to_store ≡ stores → to_check ≡ checks
+    → IsAskedBeside to_store old.held.standing.asked mid.held.standing.asked → mid ≡ standing_as old (record old.held.standing { asked = mid.held.standing.asked })
+    → AreHeld (map store_call to_store) → AreHeld (map check_call to_check)
+    → text ≡ call_frames mid.number (vote_calls user description to_store to_check) → new ≡ record mid { number = number_behind mid.number (vote_calls user description to_store to_check); last = Some calls.Vote }
+    → IsVoteSpelled user description stores checks old new text
+vote_spelled user description to_store stores to_check checks old mid new text same alike asked others held also spelled waits =
+    subst (λ (ps : List PendingStore). IsVoteSpelled user description ps checks old new text) same
+    (subst (λ (ks : List PendingCheck). IsVoteSpelled user description to_store ks old new text) alike
+    (record { mid = mid; asked = record { asked = asked; others = others }; held = vote_held user description to_store to_check held also; spelled = spelled; waits = waits }))
 
 module _ {S : Type 0} (steps : Request → Reply → S → S → Type 0) (before : S) (d : DeskState) (old : ClientState) where
   -- ---- a call by its message alone
@@ -86,27 +98,25 @@ module _ {S : Type 0} (steps : Request → Reply → S → S → Type 0) (before
 
   -- ---- a vote
 
-  module _ (user description : List ℕ) (stores : List PendingStore) (checks : List PendingCheck) (mid : ClientState) (asked : IsAskedBeside stores old.held.standing.asked mid.held.standing.asked)
-      (others : mid ≡ standing_as old (record old.held.standing { asked = mid.held.standing.asked })) where
-    pub vote_stays : (new : ClientState) → new ≡ mid → IsVoteMade steps before d old user description stores checks (Err refusal.Memory) new before d
-    vote_stays new is = subst (λ (k : ClientState). IsVoteMade steps before d old user description stores checks (Err refusal.Memory) k before d) (sym is) (vote_unsent mid (record { asked = asked; others = others }))
+  module _ (user description : List ℕ) (stores : List PendingStore) (checks : List PendingCheck) where
+    pub vote_stays : (r : Refusal) (new : ClientState) → r ≡ refusal.Memory → IsAskedFor stores old new → IsVoteMade steps before d old user description stores checks (Err r) new before d
+    vote_stays r new is asked = subst (λ (k : Refusal). IsVoteMade steps before d old user description stores checks (Err k) new before d) (sym is) (vote_unsent new asked)
 
-    module _ (text : List ℕ) (waits : ClientState) (spelled : text ≡ call_frames mid.number (vote_calls user description stores checks))
-        (waiting : waits ≡ record mid { number = number_behind mid.number (vote_calls user description stores checks); last = Some calls.Vote }) (held : AreHeld (vote_calls user description stores checks)) where
+    module _ (text : List ℕ) (waits : ClientState) (s : IsVoteSpelled user description stores checks old waits text) where
       talks : (result : Result Answer Refusal) (new : ClientState) (now : S) (left : DeskState) → Talks steps before d waits text result new now left
-          → Talks steps before d (waiting_for_vote mid (vote_calls user description stores checks)) (call_frames mid.number (vote_calls user description stores checks)) result new now left
+          → Talks steps before d (waiting_for_vote s.mid (vote_calls user description stores checks)) (call_frames s.mid.number (vote_calls user description stores checks)) result new now left
       talks result new now left is =
-          subst (λ (t : List ℕ). Talks steps before d (waiting_for_vote mid (vote_calls user description stores checks)) t result new now left) spelled
-          (subst (λ (k : ClientState). Talks steps before d k text result new now left) waiting is)
+          subst (λ (t : List ℕ). Talks steps before d (waiting_for_vote s.mid (vote_calls user description stores checks)) t result new now left) s.spelled
+          (subst (λ (k : ClientState). Talks steps before d k text result new now left) s.waits is)
 
       pub vote_refused : (r : Refusal) (new : ClientState) (now : S) (left : DeskState) → Talks steps before d waits text (Err r) new now left → IsVoteMade steps before d old user description stores checks (Err r) new now left
-      vote_refused r new now left is = vote_sent mid (Err r) new now left (record { asked = asked; others = others }) held (talks (Err r) new now left is)
+      vote_refused r new now left is = vote_sent s.mid (Err r) new now left s.asked s.held (talks (Err r) new now left is)
 
       pub vote_answers : (answer : Answer) (result : Result (Unit {0}) Refusal) (new : ClientState) (now : S) (left : DeskState) → Talks steps before d waits text (Ok answer) new now left → result ≡ done_answer answer
           → IsVoteMade steps before d old user description stores checks result new now left
       vote_answers answer result new now left is same =
           subst (λ (k : Result (Unit {0}) Refusal). IsVoteMade steps before d old user description stores checks k new now left) (sym same)
-          (vote_sent mid (Ok answer) new now left (record { asked = asked; others = others }) held (talks (Ok answer) new now left is))
+          (vote_sent s.mid (Ok answer) new now left s.asked s.held (talks (Ok answer) new now left is))
 
   -- ---- an undo
 

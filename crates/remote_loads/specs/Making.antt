@@ -100,6 +100,14 @@ pub record IsAskedFor (stores : List PendingStore) (old new : ClientState) : Typ
 abbrev pub waiting_for_vote : ClientState → List Call → ClientState
 waiting_for_vote client made = record client { number = number_behind client.number made; last = Some calls.Vote }
 
+-- the messages of a vote stand in this text, and the client, which has asked for it, waits for the answer
+pub record IsVoteSpelled (user description : List ℕ) (stores : List PendingStore) (checks : List PendingCheck) (old new : ClientState) (text : List ℕ) : Type 0 where
+  pub mid : ClientState
+  pub asked : IsAskedFor stores old mid
+  pub held : AreHeld (vote_calls user description stores checks)
+  pub spelled : text ≡ call_frames mid.number (vote_calls user description stores checks)
+  pub waits : new ≡ waiting_for_vote mid (vote_calls user description stores checks)
+
 -- A vote: there was no memory for its messages; or they went out.
 pub data IsVoteMade {S : Type 0} (steps : Request → Reply → S → S → Type 0) (before : S) (d : DeskState) (old : ClientState) (user description : List ℕ) (stores : List PendingStore) (checks : List PendingCheck) : Result (Unit {0}) Refusal → ClientState → S → DeskState → Type 0 where
   vote_unsent : (new : ClientState) → IsAskedFor stores old new → IsVoteMade steps before d old user description stores checks (Err refusal.Memory) new before d

@@ -3,7 +3,7 @@
 use crate::carrier::Carrier;
 use crate::remote::Remote;
 use connection_view::{FrontView, Loaded, Loads};
-use zb_ids::{Oid, Text8, Tid};
+use zb_ids::{ListOf, Oid, Text8, Tid};
 use zb_model::{PendingCheck, PendingStore, Refusal};
 
 impl<'c, W: Carrier> Loads for Remote<'c, W> {
@@ -62,8 +62,8 @@ impl<'c, W: Carrier> Loads for Remote<'c, W> {
         &mut self,
         user: &Text8,
         description: &Text8,
-        stores: &[PendingStore],
-        checks: &[PendingCheck],
+        stores: ListOf<PendingStore>,
+        checks: ListOf<PendingCheck>,
     ) -> Result<(), Refusal> {
         self.vote_on(user, description, stores, checks)
     }

@@ -1,12 +1,13 @@
 //! Votes and undos of a remote client, exactly as the machine at the other end of a carrier that tells makes them.
 
-ghost use Rattle.std.specs.Prelude.{◌≤◌, IfErr};
+ghost use Rattle.std.specs.Prelude.{◌≡◌, ◌≤◌, IfErr, IfOk, OnErr};
+ghost use Rattle.zb_model.specs.declared.refusal.Refusal.TheVariants as refusal;
 ghost use Rattle.connection_view.specs.Loading.{AreVotable, IsShortText};
 ghost use Rattle.connection_view.specs.Views.{Client};
 ghost use Rattle.remote_loads.specs.Causes.{IsRemoteRefusal};
 ghost use Rattle.remote_loads.specs.Keeping.{KeepsWay};
 ghost use Rattle.remote_loads.specs.Leaving.{UndoLeaves, VoteLeaves};
-ghost use Rattle.remote_loads.specs.Making.{IsUndoMade, IsVoteMade};
+ghost use Rattle.remote_loads.specs.Making.{IsAskedFor, IsUndoMade, IsVoteMade, IsVoteSpelled};
 ghost use Rattle.remote_loads.specs.Standing.{Stands};
 
 use crate::answers::done_answer;
@@ -14,10 +15,39 @@ use crate::carrier::Carrier;
 use crate::holding::{checks_are_held, stores_are_held};
 use crate::remote::Remote;
 use crate::undoing::undo_call;
-use zb_ids::{Text8, Tid};
+use zb_ids::{ListOf, Text8, Tid};
 use zb_model::{PendingCheck, PendingStore, Refusal};
-use zeo_client::whole_pieces_are_heard;
+use zeo_client::{ZeoClient, whole_pieces_are_heard};
 use zeo_reading::payloads_are_read_back;
+
+/// The messages of a vote. The stores and checks are dropped once their messages are spelled, so
+/// that nothing holds them while these are sent. The one error is want of memory.
+#[tactic(auto, using(crate::proofs::Made::vote_spelled))]
+fn vote_text(
+    client: &mut ZeoClient,
+    user: &Text8,
+    description: &Text8,
+    stores: ListOf<PendingStore>,
+    checks: ListOf<PendingCheck>,
+) -> Result<Text8, Refusal>
+    requires user { IsShortText user.now }
+    requires description { IsShortText description.now }
+    requires stores { AreVotable stores }
+    ensures spelled { IfOk result
+        (IsVoteSpelled user.now description.now stores checks client.old client.new) }
+    ensures err { IfErr result (λ r. r ≡ refusal.Memory) }
+    ensures asked { OnErr result (IsAskedFor stores client.old client.new) }
+{
+    let to_store = stores.as_slice();
+    let to_check = checks.as_slice();
+    stores_are_held(to_store);
+    checks_are_held(to_check);
+    client.ask_for(to_store);
+    match client.vote(user, description, to_store, to_check) {
+        Ok(text) => Ok(text),
+        Err(_) => Err(Refusal::Memory),
+    }
+}
 
 impl<'c, W: Carrier> Remote<'c, W> {
     /// A vote, by its messages.
@@ -26,12 +56,12 @@ impl<'c, W: Carrier> Remote<'c, W> {
         &mut self,
         user: &Text8,
         description: &Text8,
-        stores: &[PendingStore],
-        checks: &[PendingCheck],
+        stores: ListOf<PendingStore>,
+        checks: ListOf<PendingCheck>,
     ) -> Result<(), Refusal>
         requires user { IsShortText user.now }
         requires description { IsShortText description.now }
-        requires stores { AreVotable stores.now }
+        requires stores { AreVotable stores }
         ensures refused { IfErr result (IsRemoteRefusal (W.faults self.old.carrier)
             (W.faults self.new.carrier) (W.closed self.new.carrier) self.new.client.now.ended) }
         ensures never_falls { (W.faults self.old.carrier ≤ W.faults self.new.carrier)
@@ -40,15 +70,12 @@ impl<'c, W: Carrier> Remote<'c, W> {
             self.old.client.ghost_name self.new.client.ghost_name }
         ensures told { W.told → IsVoteMade (W.steps (W.session self.old.carrier))
             (W.end self.old.carrier) (W.desk self.old.carrier) self.old.client.now user.now
-            description.now stores.now checks.now
+            description.now stores checks
             result self.new.client.now (W.end self.new.carrier) (W.desk self.new.carrier) }
     {
-        stores_are_held(stores);
-        checks_are_held(checks);
-        self.client.ask_for(stores);
-        let text = match self.client.vote(user, description, stores, checks) {
+        let text = match vote_text(self.client, user, description, stores, checks) {
             Ok(text) => text,
-            Err(_) => return Err(Refusal::Memory),
+            Err(refusal) => return Err(refusal),
         };
         let answer = match self.talk(text) {
             Ok(answer) => answer,
@@ -57,17 +84,18 @@ impl<'c, W: Carrier> Remote<'c, W> {
         done_answer(answer)
     }
 
-    /// Votes on stores, deletes and checks. One step at most is made.
+    /// Votes on stores, deletes and checks, which are dropped before their messages go out. One step
+    /// at most is made.
     pub(crate) fn vote_on(
         &mut self,
         user: &Text8,
         description: &Text8,
-        stores: &[PendingStore],
-        checks: &[PendingCheck],
+        stores: ListOf<PendingStore>,
+        checks: ListOf<PendingCheck>,
     ) -> Result<(), Refusal>
         requires user { IsShortText user.now }
         requires description { IsShortText description.now }
-        requires stores { AreVotable stores.now }
+        requires stores { AreVotable stores }
         ensures refused { IfErr result (IsRemoteRefusal (W.faults self.old.carrier)
             (W.faults self.new.carrier) (W.closed self.new.carrier) self.new.client.now.ended) }
         ensures never_falls { (W.faults self.old.carrier ≤ W.faults self.new.carrier)
@@ -78,7 +106,7 @@ impl<'c, W: Carrier> Remote<'c, W> {
             (W.session self.old.carrier) (W.desk self.old.carrier) self.old.client.now c
             → VoteLeaves (W.steps (W.session self.old.carrier)) W.machine
             (W.session self.old.carrier) (W.end self.old.carrier) user.now description.now
-            stores.now checks.now c result
+            stores checks c result
             self.new.client.now (W.end self.new.carrier) (W.desk self.new.carrier) }
     {
         payloads_are_read_back();

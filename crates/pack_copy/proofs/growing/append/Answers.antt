@@ -1,18 +1,15 @@
 use Rattle.std.proofs.Common.{refl, ap}
 use Rattle.zb_volume.specs.declared.areas.Area.TheVariants.{Main}
 use Rattle.zb_volume.specs.Disk.{seen}
-use Rattle.zb_volume.specs.Moments.{here}
 use Rattle.pack_copy.specs.Appending.{with_held}
 use Rattle.pack_copy.specs.Copying.{CopyKept}
 use Rattle.pack_copy.proofs.Grown.{grown_so}
 use Rattle.pack_copy.proofs.Keeping.{newest_with, stands_next}
+use Rattle.pack_copy.proofs.Stays.{others_same}
 use Rattle.pack_copy.proofs.growing.append.Goals as goal
 
-pub returns-in_err-ready-clause-main : goal.returns-in_err-ready-clause-main
-returns-in_err-ready-clause-main g c = λ told. here refl
-
-pub returns-in_err-ready-clause-hint : goal.returns-in_err-ready-clause-hint
-returns-in_err-ready-clause-hint g c = λ told. here refl
+pub returns-in_err-ready-clause-others : goal.returns-in_err-ready-clause-others
+returns-in_err-ready-clause-others g c = λ told. others_same _ _ refl
 
 pub keep-requires-clause-next : goal.keep-requires-clause-next
 keep-requires-clause-next g c = stands_next c.make_ready.new.self c.args.outline.now c.in_ok-ready.ready c.requires.outline c.in_ok-ready.ensures.ready

@@ -1,5 +1,5 @@
 use Rattle.std.proofs.Common.{ℕ, ◌+◌, ◌<◌, List, [], ◌∷◌, ◌++◌, length, ap, sym, subst, ◌∙◌, arith}
-use Rattle.zb_volume.specs.declared.areas.Area.TheVariants.{Main, Hint}
+use Rattle.zb_volume.specs.declared.areas.Area.TheVariants.{Main}
 use Rattle.zb_volume.specs.Disk.{seen}
 use Rattle.zb_model.specs.Database.{newest_tid}
 use Rattle.fs_records.specs.Listed.{listed, reached_in}
@@ -9,7 +9,7 @@ use Rattle.pack_copy.specs.UpTo.{IsCopiedUpTo}
 use Rattle.fs_reading.specs.Outlines.{AllStandWithin, outlined_transaction}
 use Rattle.pack_copy.proofs.Lefts.{left_none, left_some, left_within, source_begins}
 use Rattle.pack_copy.proofs.Short.{one_adds, same_adds}
-use Rattle.pack_copy.proofs.Stays.{stays_same}
+use Rattle.pack_copy.proofs.Stays.{others_same}
 use Rattle.pack_copy.proofs.Turns.{is_start, later_left, more_left, none_left, one_more}
 use Rattle.pack_copy.proofs.turn.copy_one.Goals as goal
 
@@ -18,11 +18,8 @@ read_at-requires g c = λ told.
     let n = c.requires.next told in
     is_start (seen (g.V.Volume.state c.args.volume.now).log Main) c.args.from.now n.0 c.args.start (c.requires.source told) n.1
 
-pub returns-in_err-outline-clause-main : goal.returns-in_err-outline-clause-main
-returns-in_err-outline-clause-main g c told = stays_same Main _ _ c.read_at.ensures.same
-
-pub returns-in_err-outline-clause-hint : goal.returns-in_err-outline-clause-hint
-returns-in_err-outline-clause-hint g c told = stays_same Hint _ _ c.read_at.ensures.same
+pub returns-in_err-outline-clause-others : goal.returns-in_err-outline-clause-others
+returns-in_err-outline-clause-others g c told = others_same _ _ c.read_at.ensures.same
 
 pub append-requires-clause-side : goal.append-requires-clause-side
 append-requires-clause-side g c = λ told. subst (λ l. IsAtEnd l c.args.buffer.now) (sym c.read_at.ensures.same) (c.requires.side told)
@@ -70,11 +67,8 @@ returns-then-enough-clause-next g c = λ told number start upto.
     let get = c.in_ok-outline.ensures.transaction told (reached_in main) number (source_begins main c.args.from.now (c.requires.source told)) start in
     more_left main (with_held (g.V.Volume.state c.args.volume.now).log c.args.buffer.now) c.args.from.now c.args.to.now c.args.keep.now number c.to.inside.tid x (c.requires.source told) get (ap (λ (k : CopyKept). k.tid) c.to.view_is) upto (outlined_transaction main c.in-Some.left) (left_some main c.to.inside.tid c.args.keep.now c.args.from.now.entries c.in_ok-outline.outline c.in-Some.left (sym c.left_of.ensures.value ∙ c.in-Some.is))
 
-pub returns-then-enough-clause-main : goal.returns-then-enough-clause-main
-returns-then-enough-clause-main g c told = stays_same Main _ _ c.read_at.ensures.same
-
-pub returns-then-enough-clause-hint : goal.returns-then-enough-clause-hint
-returns-then-enough-clause-hint g c told = stays_same Hint _ _ c.read_at.ensures.same
+pub returns-then-enough-clause-others : goal.returns-then-enough-clause-others
+returns-then-enough-clause-others g c told = others_same _ _ c.read_at.ensures.same
 
 pub returns-in-None-clause-next : goal.returns-in-None-clause-next
 returns-in-None-clause-next g c = λ told number start upto.
@@ -84,11 +78,8 @@ returns-in-None-clause-next g c = λ told number start upto.
     subst (λ (b : List ℕ). IsCopiedUpTo (listed main) b c.args.to.now c.args.keep.now (number + 1)) (ap (λ l. with_held l c.args.buffer.now) (sym c.read_at.ensures.same))
     (none_left main (with_held (g.V.Volume.state c.args.volume.now).log c.args.buffer.now) c.args.from.now c.args.to.now c.args.keep.now number c.to.inside.tid x (c.requires.source told) get (ap (λ (k : CopyKept). k.tid) c.to.view_is) upto (left_none main c.to.inside.tid c.args.keep.now c.args.from.now.entries c.in_ok-outline.outline (sym c.left_of.ensures.value ∙ c.in-None.is)))
 
-pub returns-in-None-clause-main : goal.returns-in-None-clause-main
-returns-in-None-clause-main g c told = stays_same Main _ _ c.read_at.ensures.same
-
-pub returns-in-None-clause-hint : goal.returns-in-None-clause-hint
-returns-in-None-clause-hint g c told = stays_same Hint _ _ c.read_at.ensures.same
+pub returns-in-None-clause-others : goal.returns-in-None-clause-others
+returns-in-None-clause-others g c told = others_same _ _ c.read_at.ensures.same
 
 -- ---- what is added
 

@@ -1,29 +1,18 @@
-use Rattle.zb_volume.specs.declared.areas.Area.TheVariants.{Main, Hint}
 use Rattle.fs_records.specs.Headers.{header_text}
 use Rattle.pack_copy.proofs.Appendings.{appended_is, appended_join, ok_then}
-use Rattle.pack_copy.proofs.Stays.{stays_join}
+use Rattle.pack_copy.proofs.Stays.{others_join}
 use Rattle.pack_copy.proofs.Texts.{head_text}
 use Rattle.pack_copy.proofs.writing.put_head.Goals as goal
 
-pub returns-in_err-put-2-clause-main : goal.returns-in_err-put-2-clause-main
-returns-in_err-put-2-clause-main g c = λ told. stays_join Main _ _ _ (c.put.ensures.main told) (c.put-2.ensures.main told)
+pub returns-in_err-put-2-clause-others : goal.returns-in_err-put-2-clause-others
+returns-in_err-put-2-clause-others g c = λ told. others_join _ _ _ (c.put.ensures.others told) (c.put-2.ensures.others told)
 
-pub returns-in_err-put-2-clause-hint : goal.returns-in_err-put-2-clause-hint
-returns-in_err-put-2-clause-hint g c = λ told. stays_join Hint _ _ _ (c.put.ensures.hint told) (c.put-2.ensures.hint told)
+pub returns-in_err-put-3-clause-others : goal.returns-in_err-put-3-clause-others
+returns-in_err-put-3-clause-others g c = λ told. others_join _ _ _ (others_join _ _ _ (c.put.ensures.others told) (c.put-2.ensures.others told)) (c.put-3.ensures.others told)
 
-pub returns-in_err-put-3-clause-main : goal.returns-in_err-put-3-clause-main
-returns-in_err-put-3-clause-main g c = λ told. stays_join Main _ _ _ (stays_join Main _ _ _ (c.put.ensures.main told) (c.put-2.ensures.main told)) (c.put-3.ensures.main told)
-
-pub returns-in_err-put-3-clause-hint : goal.returns-in_err-put-3-clause-hint
-returns-in_err-put-3-clause-hint g c = λ told. stays_join Hint _ _ _ (stays_join Hint _ _ _ (c.put.ensures.hint told) (c.put-2.ensures.hint told)) (c.put-3.ensures.hint told)
-
-pub returns-clause-main : goal.returns-clause-main
-returns-clause-main g c = λ told.
-    stays_join Main _ _ _ (stays_join Main _ _ _ (stays_join Main _ _ _ (c.put.ensures.main told) (c.put-2.ensures.main told)) (c.put-3.ensures.main told)) (c.put-4.ensures.main told)
-
-pub returns-clause-hint : goal.returns-clause-hint
-returns-clause-hint g c = λ told.
-    stays_join Hint _ _ _ (stays_join Hint _ _ _ (stays_join Hint _ _ _ (c.put.ensures.hint told) (c.put-2.ensures.hint told)) (c.put-3.ensures.hint told)) (c.put-4.ensures.hint told)
+pub returns-clause-others : goal.returns-clause-others
+returns-clause-others g c = λ told.
+    others_join _ _ _ (others_join _ _ _ (others_join _ _ _ (c.put.ensures.others told) (c.put-2.ensures.others told)) (c.put-3.ensures.others told)) (c.put-4.ensures.others told)
 
 pub returns-clause-appended : goal.returns-clause-appended
 returns-clause-appended g c = λ told.

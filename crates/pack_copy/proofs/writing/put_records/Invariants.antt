@@ -1,12 +1,11 @@
 use Rattle.std.proofs.Common.{map, take}
 use Rattle.std.specs.List.{AllByRecursion}
-use Rattle.zb_volume.specs.declared.areas.Area.TheVariants.{Main, Hint}
 use Rattle.zb_volume.specs.Disk.{main_bytes}
-use Rattle.zb_volume.specs.Moments.{StaysAs}
 use Rattle.fs_records.specs.Blocks.{records_text}
 use Rattle.fs_records.specs.Writing.{HasRoom}
+use Rattle.zb_volume.specs.declared.areas.Area.TheVariants.{Side}
 use Rattle.pack_copy.specs.Appending.{IsAppended}
-use Rattle.zb_volume.specs.States.{FaultsStand}
+use Rattle.zb_volume.specs.States.{FaultsStand, OthersStay}
 use Rattle.pack_copy.specs.Outlined.{record_in}
 use Rattle.pack_copy.proofs.writing.put_records.Given as goal
 
@@ -16,7 +15,6 @@ invariant-record g l = record {
   appended : g.V.Volume.told → IsAppended (g.V.Volume.state l.fn.volume).log l.fn.buffer (g.V.Volume.state l.volume).log l.buffer
       (records_text l.at l.tid (map (record_in l.places.entries (main_bytes (g.V.Volume.state l.fn.volume).log)) (take l.change-index l.changes)));
   room : g.V.Volume.told → AllByRecursion HasRoom (map (record_in l.places.entries (main_bytes (g.V.Volume.state l.fn.volume).log)) (take l.change-index l.changes));
-  main : g.V.Volume.told → StaysAs Main (g.V.Volume.state l.fn.volume).log (g.V.Volume.state l.volume).log;
-  hint : g.V.Volume.told → StaysAs Hint (g.V.Volume.state l.fn.volume).log (g.V.Volume.state l.volume).log;
+  others : g.V.Volume.told → OthersStay Side (g.V.Volume.state l.fn.volume).log (g.V.Volume.state l.volume).log;
   counts : FaultsStand (g.V.Volume.state l.fn.volume) (g.V.Volume.state l.volume);
 }

@@ -1,9 +1,6 @@
 use Rattle.std.proofs.Common.{refl}
-use Rattle.zb_volume.specs.Moments.{here}
+use Rattle.pack_copy.proofs.Stays.{others_same}
 use Rattle.pack_copy.proofs.buffer.Buffer.make_room.Goals as goal
 
-pub returns-then-self-lt-PIECE-clause-main : goal.returns-then-self-lt-PIECE-clause-main
-returns-then-self-lt-PIECE-clause-main g c = λ told. here refl
-
-pub returns-then-self-lt-PIECE-clause-hint : goal.returns-then-self-lt-PIECE-clause-hint
-returns-then-self-lt-PIECE-clause-hint g c = λ told. here refl
+pub returns-then-self-lt-PIECE-clause-others : goal.returns-then-self-lt-PIECE-clause-others
+returns-then-self-lt-PIECE-clause-others g c = λ told. others_same _ _ refl

@@ -1,8 +1,7 @@
 use Rattle.std.proofs.Common.{◌-◌, ◌≤◌, length, take}
-use Rattle.zb_volume.specs.declared.areas.Area.TheVariants.{Main, Hint}
-use Rattle.zb_volume.specs.Moments.{StaysAs}
+use Rattle.zb_volume.specs.declared.areas.Area.TheVariants.{Side}
 use Rattle.pack_copy.specs.Appending.{IsAppended}
-use Rattle.zb_volume.specs.States.{FaultsStand}
+use Rattle.zb_volume.specs.States.{FaultsStand, OthersStay}
 use Rattle.pack_copy.proofs.buffer.Buffer.put.Given as goal
 
 -- the first bytes were put there
@@ -10,8 +9,7 @@ abbrev pub invariant-loop-done : goal.invariant-loop-done
 invariant-loop-done g l = record {
   within : l.done ≤ length l.bytes;
   appended : g.V.Volume.told → IsAppended (g.V.Volume.state l.fn.volume).log l.fn.self (g.V.Volume.state l.volume).log l.self (take l.done l.bytes);
-  main : g.V.Volume.told → StaysAs Main (g.V.Volume.state l.fn.volume).log (g.V.Volume.state l.volume).log;
-  hint : g.V.Volume.told → StaysAs Hint (g.V.Volume.state l.fn.volume).log (g.V.Volume.state l.volume).log;
+  others : g.V.Volume.told → OthersStay Side (g.V.Volume.state l.fn.volume).log (g.V.Volume.state l.volume).log;
   counts : FaultsStand (g.V.Volume.state l.fn.volume) (g.V.Volume.state l.volume);
 }
 

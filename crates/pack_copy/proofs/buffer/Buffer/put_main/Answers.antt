@@ -1,43 +1,35 @@
 use Rattle.std.proofs.Common.{◌≡◌, ℕ, ◌+◌, List, [], ◌++◌, length, take, drop, refl, ap, ◌∙◌, arith}
 use Rattle.std.proofs.lemmas.List.{append-nil}
-use Rattle.zb_volume.specs.declared.areas.Area.TheVariants.{Main, Hint}
+use Rattle.zb_volume.specs.declared.areas.Area.TheVariants.{Main}
 use Rattle.zb_volume.specs.Disk.{main_bytes}
-use Rattle.zb_volume.specs.Moments.{here}
 use Rattle.pack_copy.proofs.Appendings.{appended_is, appended_join, appended_none, held_more, pieces_join}
-use Rattle.pack_copy.proofs.Stays.{seen_same, stays_join, stays_same}
+use Rattle.pack_copy.proofs.Stays.{others_join, others_same, seen_same}
 use Rattle.pack_copy.proofs.buffer.Buffer.put_main.Goals as goal
 
 pub loop-done-init : goal.loop-done-init
 loop-done-init g c = record {
   within = omega arith;
   appended = λ told. appended_none (g.V.Volume.state c.args.volume.now).log c.args.self.now (c.requires.end told);
-  main = λ told. here refl;
-  hint = λ told. here refl;
+  others = λ told. others_same _ _ refl;
   counts = record { reads = refl; writes = refl };
 }
 
 pub make_room-requires : goal.make_room-requires
 make_room-requires g c = λ told. (c.loop-done.invariant.appended told).end
 
-pub returns-in_err-make_room-clause-main : goal.returns-in_err-make_room-clause-main
-returns-in_err-make_room-clause-main g c = λ told. stays_join Main _ _ _ (c.loop-done.invariant.main told) (c.make_room.ensures.main told)
-
-pub returns-in_err-make_room-clause-hint : goal.returns-in_err-make_room-clause-hint
-returns-in_err-make_room-clause-hint g c = λ told. stays_join Hint _ _ _ (c.loop-done.invariant.hint told) (c.make_room.ensures.hint told)
+pub returns-in_err-make_room-clause-others : goal.returns-in_err-make_room-clause-others
+returns-in_err-make_room-clause-others g c = λ told. others_join _ _ _ (c.loop-done.invariant.others told) (c.make_room.ensures.others told)
 
 pub read_in-requires-clause-within : goal.read_in-requires-clause-within
 read_in-requires-clause-within g c = λ told.
-    let was = seen_same Main _ _ (c.loop-done.invariant.main told) in
-    let now = seen_same Main _ _ (c.make_room.ensures.main told) in
+    let was = seen_same Main _ _ (c.loop-done.invariant.others told Main refl) in
+    let now = seen_same Main _ _ (c.make_room.ensures.others told Main refl) in
     let within = c.requires.within told in
     let short = c.requires.short told in
     omega (arith, within, short, ap (λ (xs : List ℕ). length xs) was, ap (λ (xs : List ℕ). length xs) now, c.saturating_add-from.ensures, c.loop-done-test.true)
 
-pub returns-in_err-more-clause-main : goal.returns-in_err-more-clause-main
-returns-in_err-more-clause-main g c = λ told. stays_join Main _ _ _ (stays_join Main _ _ _ (c.loop-done.invariant.main told) (c.make_room.ensures.main told)) (stays_same Main _ _ c.read_in.ensures.same)
-
-pub returns-in_err-more-clause-hint : goal.returns-in_err-more-clause-hint
-returns-in_err-more-clause-hint g c = λ told. stays_join Hint _ _ _ (stays_join Hint _ _ _ (c.loop-done.invariant.hint told) (c.make_room.ensures.hint told)) (stays_same Hint _ _ c.read_in.ensures.same)
+pub returns-in_err-more-clause-others : goal.returns-in_err-more-clause-others
+returns-in_err-more-clause-others g c = λ told. others_join _ _ _ (others_join _ _ _ (c.loop-done.invariant.others told) (c.make_room.ensures.others told)) (others_same _ _ c.read_in.ensures.same)
 
 pub loop-done-preserved : goal.loop-done-preserved
 loop-done-preserved g c =
@@ -48,8 +40,8 @@ loop-done-preserved g c =
     record {
       within = omega (arith, c.in_ok-more.ensures.count, c.loop-done-test.true);
       appended = λ told.
-          let was = seen_same Main _ _ (c.loop-done.invariant.main told) in
-          let now : main_bytes (g.V.Volume.state c.make_room.new.volume).log ≡ main = seen_same Main _ _ (c.make_room.ensures.main told) ∙ was in
+          let was = seen_same Main _ _ (c.loop-done.invariant.others told Main refl) in
+          let now : main_bytes (g.V.Volume.state c.make_room.new.volume).log ≡ main = seen_same Main _ _ (c.make_room.ensures.others told Main refl) ∙ was in
           let room = c.in_ok-make_room.ensures.appended told in
           let so_far = appended_join _ _ _ _ _ _ (take done (drop c.args.at main)) [] (c.loop-done.invariant.appended told) room in
           let at : from ≡ c.args.at + done = omega (arith, c.requires.within told, c.requires.short told, c.saturating_add-from.ensures, c.loop-done-test.true) in
@@ -58,8 +50,7 @@ loop-done-preserved g c =
           appended_is _ _ _ _ ((take done (drop c.args.at main) ++ []) ++ take more (drop from (main_bytes (g.V.Volume.state c.make_room.new.volume).log))) (take (done + more) (drop c.args.at main))
           (ap (λ (xs : List ℕ). xs ++ take more (drop from (main_bytes (g.V.Volume.state c.make_room.new.volume).log))) (append-nil (take done (drop c.args.at main))) ∙ ap (λ (xs : List ℕ). take done (drop c.args.at main) ++ xs) part ∙ pieces_join done more c.args.at main)
           (appended_join _ _ _ _ _ _ (take done (drop c.args.at main) ++ []) _ so_far read);
-      main = λ told. stays_join Main _ _ _ (stays_join Main _ _ _ (c.loop-done.invariant.main told) (c.make_room.ensures.main told)) (stays_same Main _ _ c.read_in.ensures.same);
-      hint = λ told. stays_join Hint _ _ _ (stays_join Hint _ _ _ (c.loop-done.invariant.hint told) (c.make_room.ensures.hint told)) (stays_same Hint _ _ c.read_in.ensures.same);
+      others = λ told. others_join _ _ _ (others_join _ _ _ (c.loop-done.invariant.others told) (c.make_room.ensures.others told)) (others_same _ _ c.read_in.ensures.same);
       counts = record {
         reads = c.in_ok-more.ensures.counts.reads ∙ c.in_ok-make_room.ensures.counts.reads ∙ c.loop-done.invariant.counts.reads;
         writes = c.in_ok-more.ensures.counts.writes ∙ c.in_ok-make_room.ensures.counts.writes ∙ c.loop-done.invariant.counts.writes;
