@@ -12,11 +12,10 @@ ghost use Rattle.zb_model.specs.Packs.{change_count};
 ghost use Rattle.pack_copy.specs.Copying.{IsCopied, opened_of};
 ghost use Rattle.zb_volume.specs.States.{OnlyWrites};
 
-use fs_append::replace_main;
 use fs_recovery::{Numbers, Opened};
 use pack_copy::{CopyState, changes_of};
 use zb_model::Packed;
-use zb_volume::{StoreFault, Volume};
+use zb_volume::{StoreFault, Volume, sync_and_replace};
 
 /// A file that was packed.
 #[derive(Drop)]
@@ -63,7 +62,7 @@ pub(crate) fn switch<V: Volume>(
 {
     let kept = copy.changes();
     let dropped = changes_of(from).saturating_sub(kept);
-    replace_main(volume)?;
+    sync_and_replace(volume)?;
     Ok(Switched {
         opened: copy.into_opened(),
         packed: Packed { kept, dropped },

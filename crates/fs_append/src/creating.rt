@@ -8,8 +8,7 @@ ghost use Rattle.zb_volume.specs.Images.{CrashLeaves};
 ghost use Rattle.zb_volume.specs.Moments.{LeavesOnly, StaysAs};
 ghost use Rattle.zb_volume.specs.States.{OnlyWrites};
 
-use crate::replacing::replace_main;
-use zb_volume::{Area, StoreFault, Volume};
+use zb_volume::{Area, StoreFault, Volume, sync_and_replace};
 
 /// Prepares a file in Side, whatever stands there, and puts it in the place of Main. At every moment
 /// a crash leaves of Main what it could leave before, or these bytes; after `Ok`, these bytes alone,
@@ -31,5 +30,5 @@ pub fn create<V: Volume>(volume: &mut V, bytes: &[u8]) -> Result<(), StoreFault>
 {
     volume.cut(Area::Side, 0)?;
     volume.write_at(Area::Side, 0, bytes)?;
-    replace_main(volume)
+    sync_and_replace(volume)
 }

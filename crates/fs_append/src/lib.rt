@@ -5,8 +5,6 @@
 
 mod appending;
 mod creating;
-mod replacing;
 
 pub use appending::{abort, finish, vote};
 pub use creating::create;
-pub use replacing::replace_main;

@@ -1,4 +1,3 @@
 pub mod Bytes
 pub mod Counts
-pub mod Frames
 pub mod Lists

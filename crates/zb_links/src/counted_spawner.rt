@@ -8,7 +8,7 @@ use crate::spawner::Spawner;
 use std::marker::Model;
 
 /// A spawner that runs each worker in the caller's thread, before it is given the next one, and
-/// fails at the starts that it is told.
+/// may fail at the starts that it is told, and at no others.
 #[derive(Debug, Drop)]
 pub struct CountedSpawner {
     failing: Vec<u64>,
@@ -27,8 +27,8 @@ impl Model for CountedSpawner {
 }
 
 impl CountedSpawner {
-    /// A spawner of which no run failed yet. The starts whose numbers are in `failing` will fail,
-    /// the first start of a run being number 1.
+    /// A spawner of which no run failed yet. It may fail at the starts whose numbers are in
+    /// `failing`, the first start of a run being number 1.
     pub fn new(failing: Vec<u64>) -> CountedSpawner
         ensures { result ≡ record { failing = failing.items; faults = 0 } }
     {

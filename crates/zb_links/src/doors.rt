@@ -25,18 +25,20 @@ pub trait Doors {
 
     /// Opens the doors at a port, in place of one at which they were open. At port 0 whoever gives
     /// ports picks one. It is `Failed` only where the count of faults rose, and then what is told
-    /// is as before.
+    /// is as before; else the count stands.
     fn bind(&mut self, port: u16) -> Result<(), Failed>
         ensures bound { OnOk result (told self.new ≡ option_map (bound_with port) (told self.old)) }
         ensures kept { OnErr result (told self.new ≡ told self.old) }
-        ensures cause { HasCause (faults self.old) (faults self.new) result };
+        ensures cause { HasCause (faults self.old) (faults self.new) result }
+        ensures uncounted { OnOk result (faults self.new ≡ faults self.old) };
 
     /// The next link, for which it may wait. Where the doors tell, its source does, and it becomes
     /// the last link that they tell of. It is `Failed` only where the count of faults rose, and
-    /// then what is told is as before.
+    /// then what is told is as before; else the count stands.
     fn accept(&mut self) -> Result<(Self::In, Self::Out), Failed>
         ensures given { IfOk result (λ link.
             Gives (told self.old) (told self.new) (Self.In.left link.0)) }
         ensures kept { OnErr result (told self.new ≡ told self.old) }
-        ensures cause { HasCause (faults self.old) (faults self.new) result };
+        ensures cause { HasCause (faults self.old) (faults self.new) result }
+        ensures uncounted { OnOk result (faults self.new ≡ faults self.old) };
 }

@@ -1,6 +1,5 @@
--- What a database is told of the bytes that it keeps. Source: conflict resolution and `referencesf` of ZODB.
-use Rattle.std.specs.Prelude.{◌≡◌, refl, ◌<◌, ℕ, List, [], Bool, false, Option, Result, Ok, Err, length, is_none}
-use Rattle.std.specs.Option.{unwrap_or}
+-- What a database is told of the bytes that it keeps. Source: conflict resolution of ZODB.
+use Rattle.std.specs.Prelude.{◌≡◌, refl, ◌<◌, ℕ, List, Bool, false, Result, Ok, Err, length}
 use Rattle.zb_model.specs.declared.refusal.Why.{Why}
 use Rattle.zb_model.specs.declared.refusal.Why.TheVariants as why
 
@@ -16,11 +15,3 @@ none_made made bytes refused is = absurd cc
 -- no class has a rule
 abbrev pub no_rules : MergeRules
 no_rules = record { has_rule = λ stored. false; merged = λ old committed stored. Err why.NoRule; filled = λ old committed stored bytes is. none_made (Err why.NoRule) bytes refl is }
-
--- the objects that bytes name, by what is said of each record: none where it can't be read
-abbrev pub names_in : (List ℕ → Option (List ℕ)) → List ℕ → List ℕ
-names_in references bytes = unwrap_or (references bytes) []
-
--- bytes whose references can't be read
-abbrev pub is_unreadable : (List ℕ → Option (List ℕ)) → List ℕ → Bool
-is_unreadable references bytes = is_none (references bytes)

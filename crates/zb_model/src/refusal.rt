@@ -30,8 +30,8 @@ pub enum Why {
     Overflow,
 }
 
-/// Why a turn is refused. But where a variant says so, a refused turn changes nothing of the database
-/// and its sessions.
+/// Why a turn is refused. But where a variant says so, a refused step changes nothing of the database
+/// and its sessions; the object numbers that a refused line on a tree drew stay handed out.
 #[derive(Debug, Drop)]
 pub enum Refusal {
     /// `next_tid` gives no tid below 2^64-1 for a vote that would write.
@@ -145,16 +145,16 @@ pub enum Refusal {
         /// The number that was asked for.
         number: u64,
     },
-    /// A frame's length passes the limit.
+    /// A frame's length passes the limit. Of a client's call, its steps before may have been made.
     FrameTooLong {
         /// The length that it says.
         length: u32,
     },
-    /// A payload is no message.
+    /// A payload is no message. Of a client's call, its steps before may have been made.
     BadMessage,
-    /// A call of the link failed.
+    /// A call of the link failed. The steps that were asked for may have been made.
     LinkFault,
-    /// The link has ended.
+    /// The link has ended. The steps that were asked for may have been made.
     Closed,
     /// An undo in a transaction that has stores or checks.
     Mixed {
@@ -175,7 +175,8 @@ pub enum Refusal {
     },
     /// A key or a value isn't of the tree's kind.
     BadKey,
-    /// Reading the file failed; a pack that was asked on is dropped, and else the state is as it was.
+    /// Reading the file failed; a pack that was asked on is dropped, and else the state is as it was
+    /// before the step. Of a call of several steps, those before it stand.
     ReadFault,
     /// There is nothing to delete.
     NothingToDelete {
@@ -191,6 +192,7 @@ pub enum Refusal {
     },
     /// The history of all sessions has 2^64-1 entries.
     StepsSpent,
-    /// There is no memory; a pack that was asked on is dropped, and else the state is as it was.
+    /// There is no memory; a pack that was asked on is dropped, and else the state is as it was before
+    /// the step. Of a call of several steps, those before it stand.
     Memory,
 }

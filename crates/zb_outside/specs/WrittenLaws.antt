@@ -51,10 +51,6 @@ pub last_front : (a b c : Option (List ℕ)) (whole here last : List ℕ) → Ap
     → AppendsPrefix b c here → AppendsPrefix a c whole
 last_front a b c whole here last p e q = front_more a b c whole here [] last p (e ∙ sym (append-nil here)) q
 
--- what was written so far is a front
-pub so_far_front : (a b : Option (List ℕ)) (whole rest : List ℕ) → AppendsBefore a b whole rest → AppendsPrefix a b whole
-so_far_front a b whole rest p = record { rest = rest; before = p }
-
 -- all of a text is a front of it
 pub all_front : (a b : Option (List ℕ)) (whole : List ℕ) → Appends a b whole → AppendsPrefix a b whole
 all_front a b whole p = record { rest = []; before = record { front = whole; split = sym (append-nil whole); appended = p } }

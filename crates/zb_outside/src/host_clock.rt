@@ -11,7 +11,8 @@ use std::time;
 use zb_ids::Stamp;
 
 /// The clock of the host, in coordinated universal time. It gives 1900-01-01 00:00:00 where the
-/// host's clock gives no stamp: where it can't be read, or shows a year after 9916.
+/// host's clock gives no stamp: where it can't be read, or shows a year before 1900
+/// or after 9916.
 #[derive(Debug, Drop)]
 pub struct HostClock<C: time::Clock> {
     host: C,

@@ -1,6 +1,7 @@
 -- The calls that a volume in memory keeps, and what contracts see of it.
-use Rattle.std.specs.Prelude.{◌≡◌, ℕ, ◌+◌, ◌-◌, ◌^◌, ◌==◌, min, Bool, true, false, List, [], ◌∷◌}
+use Rattle.std.specs.Prelude.{◌≡◌, ℕ, ◌==◌, Bool, true, false, List, [], ◌∷◌}
 use Rattle.std.specs.List.{list_any}
+use Rattle.zb_base.specs.Counts.{one_more}
 use Rattle.zb_volume.specs.declared.kept.KeptCall.{KeptCall}
 use Rattle.zb_volume.specs.declared.kept.KeptCall.TheVariants.{Wrote as KeptWrote, Cut as KeptCut, Synced as KeptSynced, Replaced as KeptReplaced}
 use Rattle.zb_volume.specs.Calls.{Event, Call, WriteAt, CutTo, SyncOf, Replace, made}
@@ -34,23 +35,19 @@ pub record MemoryState : Type 0 where
   pub write_faults : ℕ
   pub starved : ℕ
 
--- one more, up to the greatest number
-abbrev pub count_after : ℕ → ℕ
-count_after n = min (n + 1) (2 ^ 64 - 1)
-
 abbrev pub is_listed : List ℕ → ℕ → Bool
 is_listed failing n = list_any (λ x. x == n) failing
 
 -- A call fails where its number is listed. Else only a call that changes the volume fails, where it finds no memory. A
 -- call that fails changes nothing but the counts.
 pub record FailsWhereListed (reads : Bool) (old : MemoryState) (failed : Bool) (new : MemoryState) : Type 0 where
-  pub number : new.number ≡ count_after old.number
+  pub number : new.number ≡ one_more old.number
   pub failing : new.failing ≡ old.failing
   pub listed : is_listed old.failing new.number ≡ true → failed ≡ true
   pub reads_are_sure : is_listed old.failing new.number ≡ false → reads ≡ true → failed ≡ false
-  pub starved : is_listed old.failing new.number ≡ false → failed ≡ true → new.starved ≡ count_after old.starved
+  pub starved : is_listed old.failing new.number ≡ false → failed ≡ true → new.starved ≡ one_more old.starved
   pub not_starved : is_listed old.failing new.number ≡ true → new.starved ≡ old.starved
   pub fed : failed ≡ false → new.starved ≡ old.starved
-  pub read_fault : reads ≡ true → failed ≡ true → new.read_faults ≡ count_after old.read_faults
-  pub write_fault : reads ≡ false → failed ≡ true → new.write_faults ≡ count_after old.write_faults
+  pub read_fault : reads ≡ true → failed ≡ true → new.read_faults ≡ one_more old.read_faults
+  pub write_fault : reads ≡ false → failed ≡ true → new.write_faults ≡ one_more old.write_faults
   pub unchanged : failed ≡ true → new.done ≡ old.done

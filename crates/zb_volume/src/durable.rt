@@ -6,7 +6,7 @@ ghost use Rattle.zb_volume.specs.Calls.{Wrote, Cut, Synced, Replaced};
 ghost use Rattle.zb_volume.specs.Disk.{seen, area_length, written, IsSettled};
 ghost use Rattle.zb_volume.specs.Images.{CrashLeavesWith};
 ghost use Rattle.zb_volume.specs.Durable.{OldOrSide};
-ghost use Rattle.zb_volume.specs.Moments.{LeavesOnly};
+ghost use Rattle.zb_volume.specs.Moments.{LeavesOnly, StaysAs};
 ghost use Rattle.zb_volume.specs.States.{OnlyWrites, OthersStay};
 
 use crate::{Area, StoreFault, Volume};
@@ -64,7 +64,7 @@ pub fn cut_and_sync<V: Volume>(volume: &mut V, area: Area, length: u64) -> Resul
 }
 
 /// Syncs Side and puts it in the place of Main. At every moment a crash leaves of Main what it could
-/// leave before, or the whole of Side; after `Ok`, Side's bytes alone, and Side is empty.
+/// leave before, or the whole of Side; after `Ok`, Side's bytes alone, and Side is empty. Hint stays.
 pub fn sync_and_replace<V: Volume>(volume: &mut V) -> Result<(), StoreFault>
     ensures content { V.told → OnOk result
         (seen (V.state volume.new).log Area.Main ≡ seen (V.state volume.old).log Area.Side) }
@@ -76,6 +76,7 @@ pub fn sync_and_replace<V: Volume>(volume: &mut V) -> Result<(), StoreFault>
         ((V.state volume.new).log ≡ Replaced ∷ Synced Area.Side ∷ (V.state volume.old).log) }
     ensures any_moment { V.told → LeavesOnly Area.Main (OldOrSide (V.state volume.old).log)
         (V.state volume.old).log (V.state volume.new).log }
+    ensures hint { V.told → StaysAs Area.Hint (V.state volume.old).log (V.state volume.new).log }
     ensures write { OnlyWrites (V.state volume.old) (V.state volume.new) result }
 {
     volume.sync(Area::Side)?;

@@ -46,7 +46,8 @@ pub fn bytes_mix_one_by_one()
 {}
 
 /// A write and a cut only add images, and a sync only takes some away. So a crash in the midst of a
-/// call leaves what one before it or one after it could leave.
+/// call leaves what one before it or one after it could leave. That a replace is one step is assumed
+/// of the disk.
 pub fn calls_have_no_moments_of_their_own()
     ensures changes { ChangeAddsImages }
     ensures syncs { SyncTakesImages }

@@ -6,9 +6,10 @@ ghost use Rattle.zb_volume.specs.declared.areas.Area.{Area};
 ghost use Rattle.zb_volume.specs.Calls.{WriteAt, CutTo, SyncOf, Replace};
 ghost use Rattle.zb_volume.specs.Disk.{Disk, disk, seen, area_length, IsSettled};
 ghost use Rattle.zb_volume.specs.Images.{MayLeave, CrashLeaves};
-ghost use Rattle.zb_volume.specs.Kept.{MemoryState, count_after, is_listed, log_of, calls_of};
+ghost use Rattle.zb_volume.specs.Kept.{MemoryState, is_listed, log_of, calls_of};
 ghost use Rattle.zb_volume.specs.Replays.{IsReplay, image_of};
 ghost use Rattle.zb_base.specs.Bytes.{AreBytes};
+ghost use Rattle.zb_base.specs.Counts.{one_more};
 
 use crate::images::{greatest_image, is_image, least_image};
 use crate::kept::{KeptCall, keep, keep_write};
@@ -207,7 +208,7 @@ impl MemoryVolume {
     // Counts a call, and answers whether it is to fail.
     fn is_failing(&mut self) -> bool
         ensures listed { result ≡ is_listed self.old.failing self.new.number }
-        ensures counted { self.new ≡ record self.old { number = count_after self.old.number } }
+        ensures counted { self.new ≡ record self.old { number = one_more self.old.number } }
     {
         self.calls = self.calls.saturating_add(1);
         self.failing.contains(&self.calls)
@@ -216,7 +217,7 @@ impl MemoryVolume {
     fn count_read_fault(&mut self) -> StoreFault
         ensures later { self.old.read_faults ≤ self.new.read_faults }
         ensures counted { self.new ≡ record self.old {
-          read_faults = count_after self.old.read_faults;
+          read_faults = one_more self.old.read_faults;
         } }
     {
         self.read_faults = self.read_faults.saturating_add(1);
@@ -226,7 +227,7 @@ impl MemoryVolume {
     fn count_write_fault(&mut self) -> StoreFault
         ensures later { self.old.write_faults ≤ self.new.write_faults }
         ensures counted { self.new ≡ record self.old {
-          write_faults = count_after self.old.write_faults;
+          write_faults = one_more self.old.write_faults;
         } }
     {
         self.write_faults = self.write_faults.saturating_add(1);
@@ -237,8 +238,8 @@ impl MemoryVolume {
     fn starve(&mut self) -> StoreFault
         ensures later { self.old.write_faults ≤ self.new.write_faults }
         ensures counted { self.new ≡ record self.old {
-          write_faults = count_after self.old.write_faults;
-          starved = count_after self.old.starved;
+          write_faults = one_more self.old.write_faults;
+          starved = one_more self.old.starved;
         } }
     {
         self.starved = self.starved.saturating_add(1);

@@ -6,8 +6,8 @@ use Rattle.pack_copy.specs.CopiedLaws.{copied_counts}
 use Rattle.file_store.proofs.Switches.{listed_database, old_or_side}
 use Rattle.file_store.proofs.switching.switch.Goals as goal
 
-pub returns-in_err-replace_main-clause-any_moment : goal.returns-in_err-replace_main-clause-any_moment
-returns-in_err-replace_main-clause-any_moment g c = λ told settled. old_or_side _ _ settled (c.replace_main.ensures.any_moment told)
+pub returns-in_err-sync_and_replace-clause-any_moment : goal.returns-in_err-sync_and_replace-clause-any_moment
+returns-in_err-sync_and_replace-clause-any_moment g c = λ told settled. old_or_side _ _ settled (c.sync_and_replace.ensures.any_moment told)
 
 pub returns-clause-kept : goal.returns-clause-kept
 returns-clause-kept g c = λ told.
@@ -25,4 +25,4 @@ returns-clause-dropped g c = λ told.
     omega (arith, kept, all, c.saturating_sub-dropped.ensures)
 
 pub returns-clause-any_moment : goal.returns-clause-any_moment
-returns-clause-any_moment g c = λ told settled. old_or_side _ _ settled (c.replace_main.ensures.any_moment told)
+returns-clause-any_moment g c = λ told settled. old_or_side _ _ settled (c.sync_and_replace.ensures.any_moment told)

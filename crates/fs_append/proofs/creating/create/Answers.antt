@@ -19,7 +19,7 @@ pub returns-in_err-write_at-clause-any_moment : goal.returns-in_err-write_at-cla
 returns-in_err-write_at-clause-any_moment g c told = still_leaves _ _ c.args.bytes.now (stays g (goal.at.returns-in_err-write_at-clause-any_moment g c).After-write_at told)
 
 pub returns-clause-any_moment : goal.returns-clause-any_moment
-returns-clause-any_moment g c told = replaced_leaves _ _ _ _ c.args.bytes.now (c.in_ok-cut.ensures.done told) (c.in_ok-write_at.ensures.done told) (stays g (goal.at.returns-clause-any_moment g c).After-write_at told) (c.replace_main.ensures.any_moment told)
+returns-clause-any_moment g c told = replaced_leaves _ _ _ _ c.args.bytes.now (c.in_ok-cut.ensures.done told) (c.in_ok-write_at.ensures.done told) (stays g (goal.at.returns-clause-any_moment g c).After-write_at told) (c.sync_and_replace.ensures.any_moment told)
 
 -- Hint stays
 hint_stays : (g : _) (c : After-write_at g) → g.V.Volume.told → StaysAs Hint (g.V.Volume.state c.args.volume.now).log (g.V.Volume.state c.write_at.new.self).log
@@ -32,4 +32,4 @@ pub returns-in_err-write_at-clause-hint : goal.returns-in_err-write_at-clause-hi
 returns-in_err-write_at-clause-hint g c = hint_stays g (goal.at.returns-in_err-write_at-clause-hint g c).After-write_at
 
 pub returns-clause-hint : goal.returns-clause-hint
-returns-clause-hint g c told = stays_joined Hint _ _ _ (hint_stays g (goal.at.returns-clause-hint g c).After-write_at told) (c.replace_main.ensures.hint told)
+returns-clause-hint g c told = stays_joined Hint _ _ _ (hint_stays g (goal.at.returns-clause-hint g c).After-write_at told) (c.sync_and_replace.ensures.hint told)
