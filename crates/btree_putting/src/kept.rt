@@ -9,7 +9,8 @@ use std::collections::VecDeque;
 use std::marker::Model;
 use zb_ids::Text8;
 
-/// An object that is put, whose record can be written and reads back: the bytes of the record, and what they hold.
+/// An object that is put, whose record can be written and reads back: the bytes of the record, and
+/// what they hold.
 #[derive(Drop)]
 pub struct Kept {
     pub put: Put,
@@ -60,7 +61,8 @@ impl KeptPuts {
 
     /// The first one leaves.
     pub(crate) fn take(&mut self) -> Option<Kept>
-        ensures { MatchOption result ((self.old ≡ []) × (self.new ≡ [])) (λ kept. self.old ≡ kept ∷ self.new) }
+        ensures { MatchOption result ((self.old ≡ []) × (self.new ≡ []))
+            (λ kept. self.old ≡ kept ∷ self.new) }
     {
         self.list.pop_front()
     }

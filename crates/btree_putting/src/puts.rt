@@ -10,7 +10,8 @@ use std::collections::VecDeque;
 use std::marker::Model;
 use zb_ids::Oid;
 
-/// An object that is put: its number, its class, whether its children are leaves, and what it holds.
+/// An object that is put: its number, its class, whether its children are leaves, and what it
+/// holds.
 #[derive(Drop)]
 pub struct Put {
     pub oid: Oid,
@@ -61,14 +62,16 @@ impl Puts {
 
     /// The last one leaves.
     fn pop(&mut self) -> Option<Put>
-        ensures { MatchOption result ((self.old ≡ []) × (self.new ≡ [])) (λ put. self.old ≡ self.new ++ put ∷ []) }
+        ensures { MatchOption result ((self.old ≡ []) × (self.new ≡ []))
+            (λ put. self.old ≡ self.new ++ put ∷ []) }
     {
         self.list.pop_back()
     }
 
     /// The first one leaves.
     pub(crate) fn take(&mut self) -> Option<Put>
-        ensures { MatchOption result ((self.old ≡ []) × (self.new ≡ [])) (λ put. self.old ≡ put ∷ self.new) }
+        ensures { MatchOption result ((self.old ≡ []) × (self.new ≡ []))
+            (λ put. self.old ≡ put ∷ self.new) }
     {
         self.list.pop_front()
     }

@@ -67,14 +67,16 @@ impl<R> Rungs<R> {
 
     /// The highest one leaves, where there is one.
     pub fn take(&mut self) -> Option<R>
-        ensures { MatchOption result ((self.old ≡ []) × (self.new ≡ [])) (λ rung. self.old ≡ rung ∷ self.new) }
+        ensures { MatchOption result ((self.old ≡ []) × (self.new ≡ []))
+            (λ rung. self.old ≡ rung ∷ self.new) }
     {
         self.list.pop_front()
     }
 
     /// The lowest one leaves, where there is one.
     pub fn pop(&mut self) -> Option<R>
-        ensures { MatchOption result ((self.old ≡ []) × (self.new ≡ [])) (λ rung. self.old ≡ self.new ++ rung ∷ []) }
+        ensures { MatchOption result ((self.old ≡ []) × (self.new ≡ []))
+            (λ rung. self.old ≡ self.new ++ rung ∷ []) }
     {
         self.list.pop_back()
     }

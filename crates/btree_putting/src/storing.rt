@@ -18,7 +18,8 @@ fn store<S: Space>(space: &mut S, family: &Family, kept: Kept) -> Result<(), Tre
     requires kept { IsKept (class_seen family.now.row.now) (class_seen family.now.leaf.now) kept }
     ensures ok { OnOk result (S.contents space.new ≡ with_bytes (S.contents space.old) kept.put.oid
         (put_bytes (class_seen family.now.row.now) (class_seen family.now.leaf.now) kept.put)) }
-    ensures written { OnOk result (S.told → S.log space.new ≡ S.log space.old ++ Wrote kept.put.oid ∷ []) }
+    ensures written { OnOk result
+        (S.told → S.log space.new ≡ S.log space.old ++ Wrote kept.put.oid ∷ []) }
     ensures err { OnErr result (S.contents space.new ≡ S.contents space.old) }
     ensures same { OnErr result (S.told → S.log space.new ≡ S.log space.old) }
     ensures free { IfErr result IsFree }
@@ -39,10 +40,14 @@ fn store<S: Space>(space: &mut S, family: &Family, kept: Kept) -> Result<(), Tre
 #[tactic(auto, using(crate::proofs::Rows::stored_start, crate::proofs::Rows::stored_end, crate::proofs::Rows::stored_front, crate::proofs::Rows::first_kept, crate::proofs::Rows::rest_kept))]
 pub fn store_all<S: Space>(space: &mut S, family: &Family, kept: KeptPuts) -> Result<(), TreeError>
     requires kept { AreKept (class_seen family.now.row.now) (class_seen family.now.leaf.now) kept }
-    ensures ok { OnOk result (IsStored S.told (class_seen family.now.row.now) (class_seen family.now.leaf.now)
-        (map kept_put kept) (S.contents space.old) (S.contents space.new) (S.log space.old) (S.log space.new)) }
-    ensures err { OnErr result (IsStoredFront S.told (class_seen family.now.row.now) (class_seen family.now.leaf.now)
-        (map kept_put kept) (S.contents space.old) (S.contents space.new) (S.log space.old) (S.log space.new)) }
+    ensures ok { OnOk result
+        (IsStored S.told (class_seen family.now.row.now) (class_seen family.now.leaf.now)
+        (map kept_put kept) (S.contents space.old) (S.contents space.new) (S.log space.old)
+        (S.log space.new)) }
+    ensures err { OnErr result
+        (IsStoredFront S.told (class_seen family.now.row.now) (class_seen family.now.leaf.now)
+        (map kept_put kept) (S.contents space.old) (S.contents space.new) (S.log space.old)
+        (S.log space.new)) }
     ensures free { IfErr result IsFree }
     ensures refusals { S.told → S.refusals space.new ≡ S.refusals space.old ++ handed_on result }
 {

@@ -79,10 +79,12 @@ fn next_of(bucket: &Bucket) -> Option<Oid>
     }
 }
 
-/// The text of a bucket's state, where its keys are of one kind, its values are leaves, and it has few enough items.
+/// The text of a bucket's state, where its keys are of one kind, its values are leaves, and it has
+/// few enough items.
 #[tactic(auto, using(crate::proofs::StraightTexts::state_so))]
 fn state_text(alloc: Global, row: &ClassRow, bucket: &Bucket) -> Result<Option<Text8>, AllocError>
-    ensures { IfOk result (λ found. IfSome found (IsStraightState (class_seen row.now) bucket.now)) }
+    ensures { IfOk result (λ found. IfSome found
+        (IsStraightState (class_seen row.now) bucket.now)) }
 {
     let items = bucket.items().as_slice();
     if items.len() > MOST_ITEMS {
@@ -123,9 +125,11 @@ pub(crate) fn class_text(alloc: Global, class: &Pickle) -> Result<Option<Text8>,
     Ok(Some(text))
 }
 
-/// The bytes of the record of a put that is a leaf, where its class is one node and its values are leaves of the graph.
+/// The bytes of the record of a put that is a leaf, where its class is one node and its values are
+/// leaves of the graph.
 fn leaf_text(alloc: Global, family: &Family, put: &Put) -> Result<Option<Text8>, AllocError>
-    ensures { IfOk result (λ found. IfSome found (IsStraightText (class_seen family.now.leaf.now) put.now)) }
+    ensures { IfOk result (λ found. IfSome found
+        (IsStraightText (class_seen family.now.leaf.now) put.now)) }
 {
     let Node::Leaf(bucket) = &put.node else {
         return Ok(None);
@@ -170,7 +174,8 @@ fn is_of_leaves(row: &ClassRow) -> bool
 /// Whether a record of this class is read as a leaf.
 #[tactic(auto, using(crate::proofs::StraightTexts::own_leaf, crate::proofs::StraightTexts::leaf_below))]
 fn reads_as_leaf(family: &Family, own: &Pickle) -> bool
-    ensures { result ≡ true → ReadsAsLeaf (class_seen family.now.row.now) (class_seen family.now.leaf.now) own.now }
+    ensures { result ≡ true → ReadsAsLeaf (class_seen family.now.row.now)
+        (class_seen family.now.leaf.now) own.now }
 {
     if is_class_of(family.row, own) {
         return is_of_leaves(family.row) && same_class(family.row, family.leaf);
@@ -181,7 +186,8 @@ fn reads_as_leaf(family: &Family, own: &Pickle) -> bool
     }
 }
 
-/// The class of a record as it is read back, where it is of the same class of BTrees, and that is the one of leaves.
+/// The class of a record as it is read back, where it is of the same class of BTrees, and that is
+/// the one of leaves.
 fn class_back(
     alloc: Global,
     family: &Family,
@@ -189,7 +195,8 @@ fn class_back(
     bytes: &Text8,
 ) -> Result<Option<Pickle>, AllocError>
     ensures { IfOk result (λ found. IfSome found
-        (IsClassBack (class_seen family.now.row.now) (class_seen family.now.leaf.now) put.now bytes.now)) }
+        (IsClassBack (class_seen family.now.row.now) (class_seen family.now.leaf.now) put.now
+        bytes.now)) }
 {
     let Some(own) = graph_of(alloc, bytes)? else {
         return Ok(None);
@@ -203,7 +210,8 @@ fn class_back(
     Ok(Some(own))
 }
 
-/// The record of a leaf that is made so is kept, where its class reads back: the law of [`keep_straight`].
+/// The record of a leaf that is made so is kept, where its class reads back: the law of
+/// [`keep_straight`].
 fn straight_records_are_tried()
     ensures { StraightIsTried }
 {
@@ -215,8 +223,8 @@ fn straight_records_are_tried()
     flat_states_are_graphs();
 }
 
-/// The bytes of the record of a leaf, and what they hold, where they are made without graphs. Where nothing is answered,
-/// nothing is said of the put.
+/// The bytes of the record of a leaf, and what they hold, where they are made without graphs. Where
+/// nothing is answered, nothing is said of the put.
 pub(crate) fn keep_straight(
     alloc: Global,
     family: &Family,

@@ -1,4 +1,5 @@
-//! Records of objects with others below them that are made without graphs, and need not be read back.
+//! Records of objects with others below them that are made without graphs, and need not be read
+//! back.
 
 ghost use Rattle.std.specs.Prelude.{◌≡◌, ◌++◌, ◌∷◌, [], ◌<◌, ◌^◌, None, Some, true, IfOk, IfSome};
 ghost use Rattle.std.specs.Option.{option_copied};
@@ -86,13 +87,14 @@ fn see_branches(branches: &[Branch])
 
 /// The class of the children of an object: that of leaves, or the tree's own.
 fn child_row(family: &Family, leaves: bool) -> &'static ClassRow
-    ensures { class_seen result.now ≡ child_class (class_seen family.now.row.now) (class_seen family.now.leaf.now) leaves }
+    ensures { class_seen result.now ≡ child_class (class_seen family.now.row.now)
+        (class_seen family.now.leaf.now) leaves }
 {
     if leaves { family.leaf } else { family.row }
 }
 
-/// The text of the state of an object with others below it, where its separators are keys of the class, rise strictly and are
-/// of one kind, and there are few enough of them.
+/// The text of the state of an object with others below it, where its separators are keys of the
+/// class, rise strictly and are of one kind, and there are few enough of them.
 fn state_text(
     alloc: Global,
     family: &Family,
@@ -165,14 +167,16 @@ fn reads_as_tree(row: &ClassRow, own: &Pickle) -> bool
     is_of_trees(row)
 }
 
-/// The class of a record as it is read back, where it is of the same class of BTrees, and that is the tree's.
+/// The class of a record as it is read back, where it is of the same class of BTrees, and that is
+/// the tree's.
 pub(crate) fn tree_back(
     alloc: Global,
     row: &ClassRow,
     put: &Put,
     bytes: &Text8,
 ) -> Result<Option<Pickle>, AllocError>
-    ensures { IfOk result (λ found. IfSome found (IsTreeBack (class_seen row.now) put.now bytes.now)) }
+    ensures { IfOk result (λ found. IfSome found
+        (IsTreeBack (class_seen row.now) put.now bytes.now)) }
 {
     let Some(own) = graph_of(alloc, bytes)? else {
         return Ok(None);
@@ -186,8 +190,8 @@ pub(crate) fn tree_back(
     Ok(Some(own))
 }
 
-/// The record of an object with others below it that is made so is kept, where its class reads back: the law of
-/// [`keep_inner`].
+/// The record of an object with others below it that is made so is kept, where its class reads
+/// back: the law of [`keep_inner`].
 fn inner_records_are_tried()
     ensures { InnerIsTried }
 {
@@ -201,8 +205,8 @@ fn inner_records_are_tried()
     inner_states_are_graphs();
 }
 
-/// The bytes of the record of an object with others below it, and what they hold, where they are made without graphs. Where
-/// nothing is answered, nothing is said of the put.
+/// The bytes of the record of an object with others below it, and what they hold, where they are
+/// made without graphs. Where nothing is answered, nothing is said of the put.
 pub(crate) fn keep_inner(
     alloc: Global,
     family: &Family,

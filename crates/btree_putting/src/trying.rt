@@ -85,7 +85,8 @@ pub(crate) fn is_class_kept(class: &Pickle, copy: &Pickle) -> bool
     }
 }
 
-/// What a record that was read holds, where it is of the same class of BTrees and holds the same node.
+/// What a record that was read holds, where it is of the same class of BTrees and holds the same
+/// node.
 #[tactic(auto, using(crate::proofs::Tried::other_class, crate::proofs::Tried::no_copy, crate::proofs::Tried::other_node, crate::proofs::Tried::same_copy))]
 fn record_back(
     alloc: Global,
@@ -139,8 +140,10 @@ fn text_back(
     object: &ObjectRecord,
 ) -> Result<Option<Written>, AllocError>
     ensures { IfOk result (λ found. MatchOption found
-        (text_reads_as (class_seen family.now.row.now) put.now (object_text object.now.class object.now.state) ≡ false)
-        (HasTextBack (class_seen family.now.row.now) put.now (object_text object.now.class object.now.state))) }
+        (text_reads_as (class_seen family.now.row.now) put.now
+        (object_text object.now.class object.now.state) ≡ false)
+        (HasTextBack (class_seen family.now.row.now) put.now
+        (object_text object.now.class object.now.state))) }
 {
     let bytes = match write_record(alloc, object) {
         Ok(bytes) => bytes,
@@ -160,7 +163,8 @@ fn make_record(alloc: Global, family: &Family, put: &Put) -> Result<ObjectRecord
     requires writable { node_writable put.now.node ≡ true }
     requires class { is_class put.now.class ≡ true }
     ensures record { IfOk result (λ object.
-        IsRecordFor (class_seen family.now.row.now) (class_seen family.now.leaf.now) put.now object) }
+        IsRecordFor (class_seen family.now.row.now) (class_seen family.now.leaf.now) put.now
+        object) }
     ensures class_graph { IfOk result (λ object. IsGraph put.now.class.nodes put.now.class.root) }
     ensures state_graph { IfOk result (λ object. IsGraph object.state.nodes object.state.root) }
 {
@@ -175,7 +179,8 @@ fn record_for(alloc: Global, family: &Family, put: &Put) -> Result<Option<Object
     requires global { AreGlobal family.now }
     ensures { IfOk result (λ found. MatchOption found
         (keeps (class_seen family.now.row.now) (class_seen family.now.leaf.now) put.now ≡ false)
-        (λ object. IsSoundRecord (class_seen family.now.row.now) (class_seen family.now.leaf.now) put.now object)) }
+        (λ object. IsSoundRecord (class_seen family.now.row.now)
+        (class_seen family.now.leaf.now) put.now object)) }
 {
     if !node_writable(&put.node) {
         return Ok(None);
@@ -186,7 +191,8 @@ fn record_for(alloc: Global, family: &Family, put: &Put) -> Result<Option<Object
     Ok(Some(make_record(alloc, family, put)?))
 }
 
-/// The put with the bytes of its record and what they hold, where the record can be written and reads back, which is tried.
+/// The put with the bytes of its record and what they hold, where the record can be written and
+/// reads back, which is tried.
 #[tactic(auto, using(crate::proofs::Tried::not_kept, crate::proofs::Tried::is_kept))]
 fn keep_tried(alloc: Global, family: &Family, put: Put) -> Result<Option<Kept>, AllocError>
     requires global { AreGlobal family.now }
@@ -204,7 +210,8 @@ fn keep_tried(alloc: Global, family: &Family, put: Put) -> Result<Option<Kept>, 
     Ok(Some(Kept { put, bytes, entry }))
 }
 
-/// The bytes of the record of a put, and what they hold, where it is known without trying that it is kept.
+/// The bytes of the record of a put, and what they hold, where it is known without trying that it
+/// is kept.
 fn keep_known(alloc: Global, family: &Family, put: &Put) -> Result<Option<Written>, AllocError>
     requires global { AreGlobal family.now }
     ensures { IfOk result (λ found. IfSome found
@@ -217,8 +224,8 @@ fn keep_known(alloc: Global, family: &Family, put: &Put) -> Result<Option<Writte
     }
 }
 
-/// The put with the bytes of its record and what they hold, where the record can be written and reads back. It is tried
-/// only where it isn't known that it does.
+/// The put with the bytes of its record and what they hold, where the record can be written and
+/// reads back. It is tried only where it isn't known that it does.
 fn keep(alloc: Global, family: &Family, put: Put) -> Result<Option<Kept>, AllocError>
     requires global { AreGlobal family.now }
     ensures { IfOk result (λ found. MatchOption found
@@ -232,7 +239,8 @@ fn keep(alloc: Global, family: &Family, put: Put) -> Result<Option<Kept>, AllocE
     Ok(Some(Kept { put, bytes, entry }))
 }
 
-/// The puts with the bytes of their records and what these hold, where each record can be written and reads back.
+/// The puts with the bytes of their records and what these hold, where each record can be written
+/// and reads back.
 #[tactic(auto, using(crate::proofs::Tried::tried_start, crate::proofs::Tried::tried_step, crate::proofs::Tried::tried_stop, crate::proofs::Tried::tried_end))]
 pub fn keep_all(alloc: Global, family: &Family, puts: Puts) -> Result<Option<KeptPuts>, AllocError>
     requires global { AreGlobal family.now }

@@ -105,7 +105,8 @@ pub(crate) fn write_node(
     requires global { AreGlobal family.now }
     requires writable { node_writable node.now ≡ true }
     ensures state { IfOk result (λ state.
-        state ≡ node_graph (class_seen family.now.row.now) (class_seen family.now.leaf.now) leaves node.now) }
+        state ≡ node_graph (class_seen family.now.row.now)
+        (class_seen family.now.leaf.now) leaves node.now) }
     ensures graph { IfOk result (λ state. IsGraph state.nodes state.root) }
 {
     match node {
@@ -130,7 +131,8 @@ fn class_text(alloc: Global, row: &ClassRow) -> Result<Text8, AllocError>
     Ok(text)
 }
 
-/// The class of a new object, or `None` where its names can't be read back. The one error is want of memory.
+/// The class of a new object, or `None` where its names can't be read back. The one error is want
+/// of memory.
 pub fn plain_class(alloc: Global, row: &ClassRow) -> Result<Option<Pickle>, AllocError>
     ensures { IfOk result (λ class. class ≡ plain_class (class_seen row.now)) }
 {

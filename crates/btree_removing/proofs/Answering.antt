@@ -109,13 +109,33 @@ plan_is_refused f root key found e class leaf c l k w h =
 pub plan_is : (f : ℕ → Option (List ℕ)) (root : ℕ) (key : Key) (found : Found) (plan : Option (List Put)) (class leaf : Class) → class_held (f root) ≡ Some class → leaf_in classes class ≡ Some leaf → key_fits class.key key ≡ true → way_for true key (objects_of f root) root ≡ Ok found → plan_found key (objects_of f root) found ≡ Ok plan → plan_under f root key ≡ Ok plan
 plan_is f root key found plan class leaf c l k w h = plan_is_found f root key found (fits_all f root key class leaf c l k) w ∙ h
 
+-- ---- a way that was found
+
+-- the key is of the family of the root's class, and the way below the root was found and read
+pub record HasWay (f : ℕ → Option (List ℕ)) (root : ℕ) (key : Key) (found : Found) (log middle : List Call) : Type 0 where
+  pub fits : fits_tree (class_held (f root)) key ≡ true
+  pub way : way_for true key (objects_of f root) root ≡ Ok found
+  pub read : middle ≡ log ++ reads_of (Ok found)
+
+pub has_way : (f f' : ℕ → Option (List ℕ)) (root root' : ℕ) (key : Key) (found : Found) (class leaf : Class) (log first middle : List Call) → root' ≡ root → class_held (f root') ≡ Some class → Some leaf ≡ leaf_in classes class → key_fits class.key key ≡ true
+    → f' ≡ f → way_for true key (objects_of f' root') root' ≡ Ok found → first ≡ log ++ Read root ∷ [] → ((base : List Call) → first ≡ base ++ Read root' ∷ [] → middle ≡ base ++ reads_of (Ok found)) → HasWay f root key found log middle
+has_way f f' root root' key found class leaf log first middle r c l k s w h m = record {
+  fits = fits_all f root key class leaf (ap (λ x. class_held (f x)) (sym r) ∙ c) (sym l) k;
+  way = ap (λ x. way_for true key (objects_of f x) x) (sym r) ∙ ap (λ g. way_for true key (objects_of g root') root') (sym s) ∙ w;
+  read = m log (h ∙ ap (λ x. log ++ Read x ∷ []) (sym r));
+}
+
+-- the contents of the root's objects, after its way was read, are those of before
+pub same_objects : (f f' f'' : ℕ → Option (List ℕ)) (root root' : ℕ) → root' ≡ root → f' ≡ f → f'' ≡ f' → objects_of f'' root' ≡ objects_of f root
+same_objects f f' f'' root root' r s s' = ap (λ h. objects_of h root') (s' ∙ s) ∙ ap (objects_of f) r
+
 -- what was read is what the definition reads
-pub all_reads : (f : ℕ → Option (List ℕ)) (root : ℕ) (key : Key) (objects : ℕ → Held) (found : Found) (log middle log' : List Call) → objects ≡ objects_of f root → fits_tree (class_held (f root)) key ≡ true → way_for true key (objects_of f root) root ≡ Ok found → middle ≡ log ++ reads_of (Ok found) → log' ≡ middle ++ reads (oids_found key objects found) → log' ≡ log ++ reads_under f root key
-all_reads f root key objects found log middle log' o t h m l =
+pub all_reads : (f : ℕ → Option (List ℕ)) (root : ℕ) (key : Key) (objects : ℕ → Held) (found : Found) (log middle log' : List Call) → objects ≡ objects_of f root → HasWay f root key found log middle → log' ≡ middle ++ reads (oids_found key objects found) → log' ≡ log ++ reads_under f root key
+all_reads f root key objects found log middle log' o h l =
     l ∙ ap (λ x. middle ++ reads (oids_found key x found)) o
-    ∙ ap (λ x. x ++ reads (oids_found key (objects_of f root) found)) m
+    ∙ ap (λ x. x ++ reads (oids_found key (objects_of f root) found)) h.read
     ∙ append_assoc log (reads_of (Ok found)) (reads (oids_found key (objects_of f root) found))
-    ∙ ap (λ w. log ++ reads_by key (objects_of f root) w) (sym (ap (λ b. way_for b key (objects_of f root) root) t ∙ h))
+    ∙ ap (λ w. log ++ reads_by key (objects_of f root) w) (sym (ap (λ b. way_for b key (objects_of f root) root) h.fits ∙ h.way))
 
 -- ---- what was read of the way
 
@@ -137,10 +157,10 @@ met_is f root key found t h =
     ∙ ap (λ w. oids_of found ++ beside_by key (objects_of f root) w) (ap (λ b. way_for b key (objects_of f root) root) t ∙ h)
 
 -- the way was found, and some of the objects besides it were read
-pub met_past_way : (f : ℕ → Option (List ℕ)) (root : ℕ) (key : Key) (objects : ℕ → Held) (found : Found) (log middle log' : List Call) → objects ≡ objects_of f root → fits_tree (class_held (f root)) key ≡ true → way_for true key (objects_of f root) root ≡ Ok found → middle ≡ log ++ reads_of (Ok found) → ReadsFirst (met_beside key objects found) middle log' → ReadsFirst (met_under f root key) log log'
-met_past_way f root key objects found log middle log' o t h m r =
-    subst (λ xs. ReadsFirst xs log log') (sym (met_is f root key found t h))
-    (first_then (oids_of found) (met_beside key (objects_of f root) found) log middle log' m (subst (λ x. ReadsFirst (met_beside key x found) middle log') o r))
+pub met_past_way : (f : ℕ → Option (List ℕ)) (root : ℕ) (key : Key) (objects : ℕ → Held) (found : Found) (log middle log' : List Call) → objects ≡ objects_of f root → HasWay f root key found log middle → ReadsFirst (met_beside key objects found) middle log' → ReadsFirst (met_under f root key) log log'
+met_past_way f root key objects found log middle log' o h r =
+    subst (λ xs. ReadsFirst xs log log') (sym (met_is f root key found h.fits h.way))
+    (first_then (oids_of found) (met_beside key (objects_of f root) found) log middle log' h.read (subst (λ x. ReadsFirst (met_beside key x found) middle log') o r))
 
 -- ---- answers
 

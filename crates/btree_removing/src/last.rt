@@ -16,8 +16,8 @@ use pickle_graph::Pickle;
 use std::alloc::{AllocError, Global};
 use zb_ids::{ListOf, Oid};
 
-/// Where a way by last children ends: the objects above the end, from the root on, and the end, its class and what it
-/// holds.
+/// Where a way by last children ends: the objects above the end, from the root on, and the end, its
+/// class and what it holds.
 #[derive(Drop)]
 pub(crate) struct Last {
     pub above: ListOf<Oid>,
@@ -55,10 +55,12 @@ pub(crate) fn follow_last<S: Space>(
     start: Start,
 ) -> Result<Last, TreeError>
     requires rooted { IsRooted (S.contents space.old) tree.now }
-    ensures answer { Answers result (last_below key.now (objects_of (S.contents space.old) tree.now.root) start) }
+    ensures answer { Answers result
+        (last_below key.now (objects_of (S.contents space.old) tree.now.root) start) }
     ensures log { IfOk result (λ last. S.told
         → S.log space.new ≡ S.log space.old ++ reads (oids_to start.above (Ok last))) }
-    ensures met { S.told → ReadsFirst (met_last (objects_of (S.contents space.old) tree.now.root) (2 ^ 64 - length start.above)
+    ensures met { S.told → ReadsFirst
+        (met_last (objects_of (S.contents space.old) tree.now.root) (2 ^ 64 - length start.above)
         start.above start.child) (S.log space.old) (S.log space.new) }
     ensures contents { S.contents space.new ≡ S.contents space.old }
     ensures refusals { S.told → S.refusals space.new ≡ S.refusals space.old ++ handed_on result }

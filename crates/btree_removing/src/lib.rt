@@ -1,5 +1,5 @@
-//! Removing a key of a tree of the BTrees package: what is read for it, which objects change and how, and that they
-//! are put.
+//! Removing a key of a tree of the BTrees package: what is read for it, which objects change and
+//! how, and that they are put.
 #![tactic(auto)]
 
 mod bottom;

@@ -72,7 +72,8 @@ pub(crate) fn link_before<S: Space>(
         (link_before key.now (objects_of (S.contents space.old) tree.now.root) next start) }
     ensures log { IfOk result (λ puts. S.told → S.log space.new ≡ S.log space.old
         ++ reads (last_oids key.now (objects_of (S.contents space.old) tree.now.root) start)) }
-    ensures met { S.told → ReadsFirst (met_lasts (objects_of (S.contents space.old) tree.now.root) start) (S.log space.old)
+    ensures met { S.told → ReadsFirst
+        (met_lasts (objects_of (S.contents space.old) tree.now.root) start) (S.log space.old)
         (S.log space.new) }
     ensures contents { S.contents space.new ≡ S.contents space.old }
     ensures refusals { S.told → S.refusals space.new ≡ S.refusals space.old ++ handed_on result }

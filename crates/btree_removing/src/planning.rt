@@ -19,8 +19,8 @@ use btree_putting::{Put, Puts, Rungs, in_order};
 use btree_shapes::{Found, Path, Rooted, Space, TreeError};
 use std::alloc::Global;
 
-/// The nearest child to the left, where what leaves is a leaf: an embedded one has no link that the leaf before it
-/// could take over.
+/// The nearest child to the left, where what leaves is a leaf: an embedded one has no link that the
+/// leaf before it could take over.
 fn left_asked(leaf: bool, start: Option<Start>) -> Option<Start>
     ensures { result ≡ left_asked leaf start }
 {
@@ -30,8 +30,8 @@ fn left_asked(leaf: bool, start: Option<Start>) -> Option<Start>
     None
 }
 
-/// What is to be put where an emptied leaf leaves its tree. The way to the leaf before it is read first, and then the
-/// child that is the first one now.
+/// What is to be put where an emptied leaf leaves its tree. The way to the leaf before it is read
+/// first, and then the child that is the first one now.
 #[tactic(auto, using(crate::proofs::Finding::before_refused, crate::proofs::Finding::first_refused, crate::proofs::Finding::leaving, crate::proofs::Finding::leaving_log, btree_shapes::specs::MetLaws::first_start))]
 fn leave<S: Space>(
     alloc: Global,
@@ -42,11 +42,14 @@ fn leave<S: Space>(
     leaf: Put,
 ) -> Result<Puts, TreeError>
     requires rooted { IsRooted (S.contents space.old) tree.now }
-    ensures answer { Answers result (puts_leaving key.now (objects_of (S.contents space.old) tree.now.root) rungs leaf
+    ensures answer { Answers result
+        (puts_leaving key.now (objects_of (S.contents space.old) tree.now.root) rungs leaf
         (sides_of key.now rungs)) }
     ensures log { IfOk result (λ puts. S.told → S.log space.new ≡ S.log space.old
-        ++ reads (oids_leaving key.now (objects_of (S.contents space.old) tree.now.root) leaf (sides_of key.now rungs))) }
-    ensures met { S.told → ReadsFirst (met_leaving (objects_of (S.contents space.old) tree.now.root) leaf
+        ++ reads (oids_leaving key.now (objects_of (S.contents space.old) tree.now.root) leaf
+        (sides_of key.now rungs))) }
+    ensures met { S.told → ReadsFirst
+        (met_leaving (objects_of (S.contents space.old) tree.now.root) leaf
         (sides_of key.now rungs)) (S.log space.old) (S.log space.new) }
     ensures contents { S.contents space.new ≡ S.contents space.old }
     ensures refusals { S.told → S.refusals space.new ≡ S.refusals space.old ++ handed_on result }
@@ -75,7 +78,8 @@ fn puts_for<S: Space>(
         (puts_for key.now (objects_of (S.contents space.old) tree.now.root) path leaf) }
     ensures log { IfOk result (λ puts. S.told → S.log space.new ≡ S.log space.old
         ++ reads (oids_for key.now (objects_of (S.contents space.old) tree.now.root) path leaf)) }
-    ensures met { S.told → ReadsFirst (met_puts key.now (objects_of (S.contents space.old) tree.now.root) path leaf)
+    ensures met { S.told → ReadsFirst
+        (met_puts key.now (objects_of (S.contents space.old) tree.now.root) path leaf)
         (S.log space.old) (S.log space.new) }
     ensures contents { S.contents space.new ≡ S.contents space.old }
     ensures refusals { S.told → S.refusals space.new ≡ S.refusals space.old ++ handed_on result }
@@ -99,10 +103,12 @@ pub(crate) fn plan<S: Space>(
     found: Found,
 ) -> Result<Option<Puts>, TreeError>
     requires rooted { IsRooted (S.contents space.old) tree.now }
-    ensures answer { Answers result (plan_found key.now (objects_of (S.contents space.old) tree.now.root) found) }
+    ensures answer { Answers result
+        (plan_found key.now (objects_of (S.contents space.old) tree.now.root) found) }
     ensures log { IfOk result (λ puts. S.told → S.log space.new ≡ S.log space.old
         ++ reads (oids_found key.now (objects_of (S.contents space.old) tree.now.root) found)) }
-    ensures met { S.told → ReadsFirst (met_beside key.now (objects_of (S.contents space.old) tree.now.root) found)
+    ensures met { S.told → ReadsFirst
+        (met_beside key.now (objects_of (S.contents space.old) tree.now.root) found)
         (S.log space.old) (S.log space.new) }
     ensures contents { S.contents space.new ≡ S.contents space.old }
     ensures refusals { S.told → S.refusals space.new ≡ S.refusals space.old ++ handed_on result }

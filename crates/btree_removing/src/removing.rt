@@ -37,7 +37,8 @@ fn find_puts<S: Space>(
     ensures contents { S.contents space.new ≡ S.contents space.old }
     ensures log { IfOk result (λ found. S.told
         → S.log space.new ≡ S.log space.old ++ reads_under (S.contents space.old) root key.now) }
-    ensures met { S.told → ReadsFirst (met_under (S.contents space.old) root key.now) (S.log space.old)
+    ensures met { S.told → ReadsFirst (met_under (S.contents space.old) root key.now)
+        (S.log space.old)
         (S.log space.new) }
     ensures refusals { S.told → S.refusals space.new ≡ S.refusals space.old ++ handed_on result }
 {
@@ -68,8 +69,9 @@ fn write<S: Space>(
     puts: Puts,
 ) -> Result<(), TreeError>
     requires { AreGlobal family.now }
-    ensures writes { Writes S.told (class_seen family.now.row.now) (class_seen family.now.leaf.now) puts
-        (S.contents space.old) (S.contents space.new) (S.log space.old) (S.log space.new) result }
+    ensures writes { Writes S.told (class_seen family.now.row.now)
+        (class_seen family.now.leaf.now) puts (S.contents space.old) (S.contents space.new)
+        (S.log space.old) (S.log space.new) result }
     ensures refusals { S.told → S.refusals space.new ≡ S.refusals space.old ++ handed_on result }
 {
     let Some(kept) = keep_all(alloc, family, puts)? else {
@@ -86,8 +88,8 @@ pub fn remove<S: Space>(
     root: Oid,
     key: &Key,
 ) -> Result<bool, TreeError>
-    ensures ways { Removes S.told (S.contents space.old) (S.contents space.new) (S.log space.old) (S.log space.new)
-        root key.now result }
+    ensures ways { Removes S.told (S.contents space.old) (S.contents space.new) (S.log space.old)
+        (S.log space.new) root key.now result }
     ensures refusals { S.told → S.refusals space.new ≡ S.refusals space.old ++ handed_on result }
 {
     match find_puts(alloc, space, root, key) {

@@ -10,8 +10,8 @@ use pickle_graph::Pickle;
 use std::alloc::{AllocError, Global};
 use zb_ids::Oid;
 
-/// An object with others below it on the way to a leaf: its number, its class, what it holds, and whether its children
-/// are leaves.
+/// An object with others below it on the way to a leaf: its number, its class, what it holds, and
+/// whether its children are leaves.
 #[derive(Drop)]
 pub(crate) struct Rung {
     pub oid: Oid,

@@ -18,7 +18,8 @@ pub(crate) struct Start {
     pub child: Oid,
 }
 
-/// The nearest child to the left of a way, and the child that has to be read since it is the first one now.
+/// The nearest child to the left of a way, and the child that has to be read since it is the first
+/// one now.
 #[derive(Drop)]
 pub(crate) struct Sides {
     pub left: Option<Start>,
@@ -41,7 +42,8 @@ fn left_child(inner: &Inner, key: &Key) -> Option<Oid>
     left
 }
 
-/// The second child, where the way goes to the first; `leaves` says whether they are leaves, so that it needn't be read.
+/// The second child, where the way goes to the first; `leaves` says whether they are leaves, so
+/// that it needn't be read.
 fn head_child(leaves: bool, tail: &[Branch], key: &Key) -> Option<Oid>
     ensures { result ≡ head_child leaves tail.now key.now }
 {
@@ -120,7 +122,8 @@ fn side(
     })
 }
 
-/// What was found down to an object: the objects above what follows, and the children besides these.
+/// What was found down to an object: the objects above what follows, and the children besides
+/// these.
 #[derive(Drop)]
 struct Down {
     above: ListOf<Oid>,
@@ -139,7 +142,8 @@ fn one_down(alloc: Global, key: &Key, down: Down, rung: &Rung) -> Result<Down, A
     Ok(Down { above, sides })
 }
 
-/// The nearest child to the left of a way, and the child that has to be read since it is the first one now.
+/// The nearest child to the left of a way, and the child that has to be read since it is the first
+/// one now.
 #[tactic(auto, using(crate::proofs::Siding::sides_start, crate::proofs::Siding::sides_step, crate::proofs::Siding::sides_end))]
 pub(crate) fn sides_of(alloc: Global, key: &Key, rungs: &Rungs<Rung>) -> Result<Sides, AllocError>
     ensures { IfOk result (λ sides. sides ≡ sides_of key.now rungs.now) }

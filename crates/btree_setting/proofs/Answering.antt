@@ -183,12 +183,28 @@ way_is_refused f root sizes key value e class leaf c l k v h = way_refused f roo
 pub task_is_refused : (f : ℕ → Option (List ℕ)) (root : ℕ) (sizes : Sizes) (key : Key) (value : Option (List ℕ)) (found : Found) (e : TreeError) (class leaf : Class) → class_held (f root) ≡ Some class → leaf_in classes class ≡ Some leaf → key_fits class.key key ≡ true → fits_class class value ≡ true → way_for true key (objects_of f root) root ≡ Ok found → IsRefusal e (task_found (objects_of f root) true sizes key value found) → IsRefusal e (task_under f root sizes key value)
 task_is_refused f root sizes key value found e class leaf c l k v w h = found_refused f root sizes key value found e (fits_all f root key value class leaf c l k v) w h
 
+-- ---- a way that was found
+
+-- the key and the value are of the family of the root's class, and the way below the root was found and read
+pub record HasWay (f : ℕ → Option (List ℕ)) (root : ℕ) (key : Key) (value : Option (List ℕ)) (found : Found) (log middle : List Call) : Type 0 where
+  pub fits : fits_tree (class_held (f root)) key value ≡ true
+  pub way : way_for true key (objects_of f root) root ≡ Ok found
+  pub read : middle ≡ log ++ reads_of (Ok found)
+
+pub has_way : (f f' : ℕ → Option (List ℕ)) (root root' : ℕ) (key : Key) (value : Option (List ℕ)) (found : Found) (class leaf : Class) (log first middle : List Call) → root' ≡ root → class_held (f root') ≡ Some class → Some leaf ≡ leaf_in classes class → key_fits class.key key ≡ true → fits_class class value ≡ true
+    → f' ≡ f → way_for true key (objects_of f' root') root' ≡ Ok found → first ≡ log ++ Read root ∷ [] → ((base : List Call) → first ≡ base ++ Read root' ∷ [] → middle ≡ base ++ reads_of (Ok found)) → HasWay f root key value found log middle
+has_way f f' root root' key value found class leaf log first middle r c l k v s w h m = record {
+  fits = fits_all f root key value class leaf (ap (λ x. class_held (f x)) (sym r) ∙ c) (sym l) k v;
+  way = ap (λ x. way_for true key (objects_of f x) x) (sym r) ∙ ap (λ g. way_for true key (objects_of g root') root') (sym s) ∙ w;
+  read = m log (h ∙ ap (λ x. log ++ Read x ∷ []) (sym r));
+}
+
 -- what was read is what the definition reads
-pub all_reads : (f : ℕ → Option (List ℕ)) (root : ℕ) (sizes : Sizes) (key : Key) (value : Option (List ℕ)) (found : Found) (log middle log' : List Call) → fits_tree (class_held (f root)) key value ≡ true → way_for true key (objects_of f root) root ≡ Ok found → middle ≡ log ++ reads_of (Ok found) → log' ≡ middle ++ reads (asked_found sizes key value found) → log' ≡ log ++ reads_under f root sizes key value
-all_reads f root sizes key value found log middle log' t h m l =
-    l ∙ ap (λ x. x ++ reads (asked_found sizes key value found)) m
+pub all_reads : (f : ℕ → Option (List ℕ)) (root : ℕ) (sizes : Sizes) (key : Key) (value : Option (List ℕ)) (found : Found) (log middle log' : List Call) → HasWay f root key value found log middle → log' ≡ middle ++ reads (asked_found sizes key value found) → log' ≡ log ++ reads_under f root sizes key value
+all_reads f root sizes key value found log middle log' h l =
+    l ∙ ap (λ x. x ++ reads (asked_found sizes key value found)) h.read
     ∙ append_assoc log (reads_of (Ok found)) (reads (asked_found sizes key value found))
-    ∙ ap (λ w. log ++ reads_by sizes key value w) (sym (ap (λ b. way_for b key (objects_of f root) root) t ∙ h))
+    ∙ ap (λ w. log ++ reads_by sizes key value w) (sym (ap (λ b. way_for b key (objects_of f root) root) h.fits ∙ h.way))
 
 -- ---- what was read of the way
 
@@ -210,9 +226,9 @@ met_is f root sizes key value found t h =
     ∙ ap (λ w. oids_of found ++ beside_by sizes key value w) (ap (λ b. way_for b key (objects_of f root) root) t ∙ h)
 
 -- the way was found, and some of the children besides it were read
-pub met_beside : (f : ℕ → Option (List ℕ)) (root : ℕ) (sizes : Sizes) (key : Key) (value : Option (List ℕ)) (found : Found) (log middle log' : List Call) → fits_tree (class_held (f root)) key value ≡ true → way_for true key (objects_of f root) root ≡ Ok found → middle ≡ log ++ reads_of (Ok found) → ReadsFirst (asked_found sizes key value found) middle log' → ReadsFirst (met_under f root sizes key value) log log'
-met_beside f root sizes key value found log middle log' t h m r =
-    subst (λ xs. ReadsFirst xs log log') (sym (met_is f root sizes key value found t h)) (first_then (oids_of found) (asked_found sizes key value found) log middle log' m r)
+pub met_beside : (f : ℕ → Option (List ℕ)) (root : ℕ) (sizes : Sizes) (key : Key) (value : Option (List ℕ)) (found : Found) (log middle log' : List Call) → HasWay f root key value found log middle → ReadsFirst (asked_found sizes key value found) middle log' → ReadsFirst (met_under f root sizes key value) log log'
+met_beside f root sizes key value found log middle log' h r =
+    subst (λ xs. ReadsFirst xs log log') (sym (met_is f root sizes key value found h.fits h.way)) (first_then (oids_of found) (asked_found sizes key value found) log middle log' h.read r)
 
 -- ---- answers
 

@@ -33,8 +33,8 @@ pub(crate) struct End {
     pub is_root: bool,
 }
 
-/// A leaf with the item that is set: the object that it is or stands in, with its class, and whether its key is a new
-/// one.
+/// A leaf with the item that is set: the object that it is or stands in, with its class, and
+/// whether its key is a new one.
 #[derive(Drop)]
 pub(crate) struct Bottom {
     pub oid: Oid,
@@ -74,7 +74,8 @@ fn leaf_has_key(leaf: &Bucket, key: &Key) -> bool
     item_stands(leaf.items().as_slice(), key)
 }
 
-/// The leaf at the end of a way, and where it stands. There is none where others stand below the object.
+/// The leaf at the end of a way, and where it stands. There is none where others stand below the
+/// object.
 fn leaf_at(node: Node, is_root: bool) -> Option<(Shared<Bucket>, Place)>
     ensures { result ≡ leaf_at node is_root }
 {
@@ -90,7 +91,8 @@ fn leaf_at(node: Node, is_root: bool) -> Option<(Shared<Bucket>, Place)>
     }
 }
 
-/// The leaf at the end of a way, with this value at a key. There is none where the key has that value.
+/// The leaf at the end of a way, with this value at a key. There is none where the key has that
+/// value.
 pub(crate) fn bottom_of(
     alloc: Global,
     end: End,

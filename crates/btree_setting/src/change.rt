@@ -12,7 +12,8 @@ pub(crate) struct Sprout {
     pub first: Oid,
 }
 
-/// What is put at and below an object: new ones in the order in which their numbers were drawn, and changed ones.
+/// What is put at and below an object: new ones in the order in which their numbers were drawn, and
+/// changed ones.
 #[derive(Drop)]
 pub(crate) struct Change {
     pub news: Puts,

@@ -25,8 +25,8 @@ pub(crate) struct Plain {
     pub inner: Shared<Pickle>,
 }
 
-/// How many items a leaf and how many children an object above it has at most, the key that is set, and the classes
-/// of new objects.
+/// How many items a leaf and how many children an object above it has at most, the key that is set,
+/// and the classes of new objects.
 #[derive(Drop)]
 pub(crate) struct Terms {
     pub leaf: usize,
@@ -128,7 +128,8 @@ fn split_leaf(
     })
 }
 
-/// A leaf without a number that is split: its halves go into two new leaves, and its object gets these two.
+/// A leaf without a number that is split: its halves go into two new leaves, and its object gets
+/// these two.
 #[tactic(auto, using(crate::proofs::Numbers::drawn_two))]
 fn split_lone(
     alloc: Global,
@@ -192,7 +193,8 @@ pub(crate) fn grow_leaf(
     bottom: &Bottom,
     oids: &[Oid],
 ) -> Result<Change, AllocError>
-    ensures set { IfOk result (λ change. IsBottom terms.now.leaf terms.now.plain bottom.now change) }
+    ensures set { IfOk result
+        (λ change. IsBottom terms.now.leaf terms.now.plain bottom.now change) }
     ensures drawn { IfOk result (λ change. AreDrawn oids.now change.news) }
 {
     let grows = leaf_grows(terms.leaf, bottom);
@@ -358,7 +360,8 @@ fn split_inner(
 ) -> Result<Change, AllocError>
     requires some { 0 < length tail }
     requires drawn { AreDrawn oids.now news }
-    ensures split { IfOk result (λ change. InnerSplits terms.now.plain rung.now up tail news olds change) }
+    ensures split { IfOk result
+        (λ change. InnerSplits terms.now.plain rung.now up tail news olds change) }
     ensures drawn { IfOk result (λ change. AreDrawn oids.now change.news) }
 {
     let Parted {
@@ -401,7 +404,8 @@ fn split_root(
 ) -> Result<Change, AllocError>
     requires some { 0 < length tail }
     requires drawn { AreDrawn oids.now news }
-    ensures split { IfOk result (λ change. RootParts terms.now.plain rung.now up tail news olds change) }
+    ensures split { IfOk result
+        (λ change. RootParts terms.now.plain rung.now up tail news olds change) }
     ensures drawn { IfOk result (λ change. AreDrawn oids.now change.news) }
 {
     let Parted {
@@ -446,7 +450,8 @@ pub(crate) fn rise(
     oids: &[Oid],
 ) -> Result<Change, AllocError>
     requires { AreDrawn oids.now below.news }
-    ensures rise { IfOk result (λ change. Rise terms.now.inner terms.now.key terms.now.plain rung.now below change) }
+    ensures rise { IfOk result
+        (λ change. Rise terms.now.inner terms.now.key terms.now.plain rung.now below change) }
     ensures drawn { IfOk result (λ change. AreDrawn oids.now change.news) }
 {
     let Change { news, olds, up } = below;
@@ -474,7 +479,8 @@ pub(crate) fn rise_root(
     oids: &[Oid],
 ) -> Result<Change, AllocError>
     requires { AreDrawn oids.now below.news }
-    ensures rise { IfOk result (λ change. RootRise terms.now.inner terms.now.key terms.now.plain rung.now below change) }
+    ensures rise { IfOk result
+        (λ change. RootRise terms.now.inner terms.now.key terms.now.plain rung.now below change) }
     ensures drawn { IfOk result (λ change. AreDrawn oids.now change.news) }
 {
     let Change { news, olds, up } = below;

@@ -1,5 +1,5 @@
-//! Setting what stands under a key of a tree of the BTrees package: what is read for it, which objects change and how,
-//! and that they are put.
+//! Setting what stands under a key of a tree of the BTrees package: what is read for it, which
+//! objects change and how, and that they are put.
 #![tactic(auto)]
 
 mod bottom;

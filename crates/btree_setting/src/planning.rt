@@ -33,8 +33,8 @@ fn climb(
     rise_root(alloc, terms, rungs.at(0), change, oids)
 }
 
-/// What a leaf and the objects above it change, with these numbers for new objects, in the order in which they were
-/// drawn. Where there are too few of them, it is refused as want of memory.
+/// What a leaf and the objects above it change, with these numbers for new objects, in the order in
+/// which they were drawn. Where there are too few of them, it is refused as want of memory.
 #[tactic(auto, using(crate::proofs::Rising::no_rungs))]
 pub(crate) fn plan(
     alloc: Global,

@@ -19,7 +19,8 @@ use btree_shapes::{Found, Rooted, Space, TreeError};
 use std::alloc::Global;
 use zb_ids::Text8;
 
-/// How many items a leaf, and how many children an object above it, has at most where a set splits it.
+/// How many items a leaf, and how many children an object above it, has at most where a set splits
+/// it.
 #[derive(Clone, Copy, Debug, PartialEq, Eq)]
 pub struct Sizes {
     /// Of items; 2 or more.
@@ -46,8 +47,8 @@ fn splits(max: usize, bottom: &Bottom) -> bool
     }
 }
 
-/// What is to be set where a way ends: nothing, where the key has the value already. The children besides the way of
-/// which the first leaves are needed are read, from the root down.
+/// What is to be set where a way ends: nothing, where the key has the value already. The children
+/// besides the way of which the first leaves are needed are read, from the root down.
 #[tactic(auto, using(crate::proofs::Finding::none_is, crate::proofs::Finding::found_none, crate::proofs::Finding::reads_none, crate::proofs::Finding::found_some, crate::proofs::Finding::found_refused, crate::proofs::Finding::reads_some, btree_shapes::specs::MetLaws::first_start))]
 pub(crate) fn prepare<S: Space>(
     alloc: Global,
@@ -61,11 +62,13 @@ pub(crate) fn prepare<S: Space>(
     requires rooted { IsRooted (S.contents space.old) tree.now }
     requires value { IsValue value }
     ensures answer { Answers result
-        (task_found (objects_of (S.contents space.old) tree.now.root) true sizes key.now value found) }
+        (task_found (objects_of (S.contents space.old) tree.now.root) true sizes key.now value
+        found) }
     ensures contents { S.contents space.new ≡ S.contents space.old }
     ensures log { IfOk result (λ task. S.told
         → S.log space.new ≡ S.log space.old ++ reads (asked_found sizes key.now value found)) }
-    ensures met { S.told → ReadsFirst (asked_found sizes key.now value found) (S.log space.old) (S.log space.new) }
+    ensures met { S.told → ReadsFirst (asked_found sizes key.now value found) (S.log space.old)
+        (S.log space.new) }
     ensures refusals { S.told → S.refusals space.new ≡ S.refusals space.old ++ handed_on result }
 {
     let Found {

@@ -22,8 +22,8 @@ pub(crate) enum Seam {
     Beside(Oid),
 }
 
-/// An object with others below it on the way to a leaf that is set: its number, its class, what it holds, whether
-/// its children are leaves, and what begins its second half where it is split.
+/// An object with others below it on the way to a leaf that is set: its number, its class, what it
+/// holds, whether its children are leaves, and what begins its second half where it is split.
 #[derive(Drop)]
 pub(crate) struct Rung {
     pub oid: Oid,
@@ -44,7 +44,8 @@ pub(crate) fn child_asked(rung: &Rung) -> Option<Oid>
     }
 }
 
-/// The child that begins the second half, where one stands there already, once a child was put in at a place.
+/// The child that begins the second half, where one stands there already, once a child was put in
+/// at a place.
 fn seam_child(tail: &[Branch], place: usize) -> Option<Oid>
     ensures { result ≡ seam_child tail.now place }
 {
@@ -59,8 +60,8 @@ fn seam_child(tail: &[Branch], place: usize) -> Option<Oid>
     }
 }
 
-/// What begins the second half of an object, whose child on the way has this first leaf; `leaves` says whether the
-/// children are leaves.
+/// What begins the second half of an object, whose child on the way has this first leaf; `leaves`
+/// says whether the children are leaves.
 fn seam_for(tail: &[Branch], key: &Key, leaves: bool, first: Oid) -> Seam
     ensures { result ≡ seam_for tail.now key.now leaves first }
 {
@@ -87,7 +88,8 @@ fn is_full(max: usize, inner: &Inner) -> bool
     max <= count || max - count < 2
 }
 
-/// The objects of a way, as far as a split goes up through them. `splits` says whether the leaf is split.
+/// The objects of a way, as far as a split goes up through them. `splits` says whether the leaf is
+/// split.
 #[tactic(auto, using(crate::proofs::Rising::rungs_start, crate::proofs::Rising::rungs_step, crate::proofs::Rising::rungs_end))]
 pub(crate) fn rungs_of(
     alloc: Global,

@@ -27,7 +27,8 @@ use std::alloc::{AllocError, Global};
 use zb_ids::{Oid, Text8};
 use zb_record::alike_records_are_kept;
 
-/// How many items and children there may be, the key, and the classes of new objects, where these can be written.
+/// How many items and children there may be, the key, and the classes of new objects, where these
+/// can be written.
 fn terms_of(
     alloc: Global,
     family: &Family,
@@ -61,8 +62,8 @@ struct Trial {
     olds: KeptPuts,
 }
 
-/// Tries all records that a set puts, with 0 for each number: there is none where one can't be written or doesn't read
-/// back.
+/// Tries all records that a set puts, with 0 for each number: there is none where one can't be
+/// written or doesn't read back.
 #[tactic(auto, using(crate::proofs::Trying::is_trial, crate::proofs::Trying::is_tried, crate::proofs::Trying::news_fail, crate::proofs::Trying::olds_fail))]
 fn try_out(
     alloc: Global,
@@ -72,7 +73,8 @@ fn try_out(
 ) -> Result<Option<Trial>, AllocError>
     requires { AreGlobal family.now }
     ensures { IfOk result
-        (Tried (class_seen family.now.row.now) (class_seen family.now.leaf.now) terms.now task.now) }
+        (Tried (class_seen family.now.row.now) (class_seen family.now.leaf.now) terms.now
+        task.now) }
 {
     let oids = stand_ins(alloc, task.rungs.len())?;
     let Change { news, olds, up: _ } = plan(
@@ -110,7 +112,8 @@ fn draw_and_plan<S: Space>(
     count: usize,
 ) -> Result<Puts, TreeError>
     requires counted { CountsNews terms.now task.now count }
-    ensures ok { IfOk result (λ puts. IsPlan S.told terms.now task.now puts (S.log space.old) (S.log space.new)) }
+    ensures ok { IfOk result
+        (λ puts. IsPlan S.told terms.now task.now puts (S.log space.old) (S.log space.new)) }
     ensures err { IfErr result (λ e. S.told → DrewOf count e (S.log space.old) (S.log space.new)) }
     ensures free { IfErr result IsFree }
     ensures contents { S.contents space.new ≡ S.contents space.old }
@@ -124,8 +127,10 @@ fn draw_and_plan<S: Space>(
 /// The puts of a plan, whose records can all be written and read back, with the bytes of these.
 fn keep_plan(alloc: Global, family: &Family, puts: Puts) -> Result<KeptPuts, AllocError>
     requires global { AreGlobal family.now }
-    requires kept { all_keep (class_seen family.now.row.now) (class_seen family.now.leaf.now) puts ≡ true }
-    ensures { IfOk result (AreTried (class_seen family.now.row.now) (class_seen family.now.leaf.now) puts) }
+    requires kept { all_keep (class_seen family.now.row.now) (class_seen family.now.leaf.now) puts
+        ≡ true }
+    ensures { IfOk result
+        (AreTried (class_seen family.now.row.now) (class_seen family.now.leaf.now) puts) }
 {
     match keep_all(alloc, family, puts)? {
         Some(kept) => Ok(kept),
@@ -133,15 +138,16 @@ fn keep_plan(alloc: Global, family: &Family, puts: Puts) -> Result<KeptPuts, All
     }
 }
 
-/// What trying a change gives whose numbers are there already: how many new objects there are, and all that it puts, in order.
+/// What trying a change gives whose numbers are there already: how many new objects there are, and
+/// all that it puts, in order.
 #[derive(Drop)]
 struct Ahead {
     count: usize,
     kept: KeptPuts,
 }
 
-/// Tries all records that a set puts with these numbers, where they suffice. There is nothing also where one can't be written
-/// or doesn't read back.
+/// Tries all records that a set puts with these numbers, where they suffice. There is nothing also
+/// where one can't be written or doesn't read back.
 #[tactic(auto, using(crate::proofs::Ahead::is_ahead))]
 fn try_ahead(
     alloc: Global,
@@ -155,7 +161,8 @@ fn try_ahead(
         (class_seen family.now.leaf.now) terms.now task.now numbers.now)) }
 {
     let zeros = stand_ins(alloc, task.rungs.len())?;
-    // The change that contracts speak of, which has 0 for each number: it can be written where the other can.
+    // The change that contracts speak of, which has 0 for each number: it can be written where the
+    // other can.
     let _zero = plan(alloc, terms, &task.bottom, &task.rungs, zeros.as_slice())?;
     let Ok(change) = plan(alloc, terms, &task.bottom, &task.rungs, numbers) else {
         return Ok(None);
@@ -205,7 +212,8 @@ fn begins_with(numbers: &[Oid], oids: &[Oid]) -> bool
     front == oids
 }
 
-/// Draws the numbers that were tried, and puts what was tried. Where the space gives others, it ends as for want of memory.
+/// Draws the numbers that were tried, and puts what was tried. Where the space gives others, it
+/// ends as for want of memory.
 #[tactic(auto, using(crate::proofs::Ahead::ahead_undrawn, crate::proofs::Ahead::ahead_other))]
 fn put_ahead<S: Space>(
     alloc: Global,
@@ -217,10 +225,11 @@ fn put_ahead<S: Space>(
     numbers: &[Oid],
     ahead: Ahead,
 ) -> Result<(), TreeError>
-    requires { HasAhead (class_seen family.now.row.now) (class_seen family.now.leaf.now) _sizes _key.now _task.now
-        numbers.now ahead }
-    ensures writes { Writes S.told (class_seen family.now.row.now) (class_seen family.now.leaf.now) _sizes _key.now
-        _task.now (S.contents space.old) (S.contents space.new) (S.log space.old) (S.log space.new) result }
+    requires { HasAhead (class_seen family.now.row.now) (class_seen family.now.leaf.now)
+        _sizes _key.now _task.now numbers.now ahead }
+    ensures writes { Writes S.told (class_seen family.now.row.now) (class_seen family.now.leaf.now)
+        _sizes _key.now _task.now (S.contents space.old) (S.contents space.new)
+        (S.log space.old) (S.log space.new) result }
     ensures refusals { S.told → S.refusals space.new ≡ S.refusals space.old ++ handed_on result }
 {
     let Ahead { count, kept } = ahead;
@@ -240,8 +249,8 @@ pub enum SetEnd {
     Lacks,
 }
 
-/// Tries the records that a set puts with 0 for each number, draws the numbers of new objects, of which there are so many, and
-/// puts all.
+/// Tries the records that a set puts with 0 for each number, draws the numbers of new objects, of
+/// which there are so many, and puts all.
 #[tactic(auto, using(crate::proofs::Counting::counts_news, crate::proofs::Rekept::plan_kept, crate::proofs::Answering::starved, crate::proofs::Answering::undrawn, crate::proofs::Answering::is_short, crate::proofs::Answering::written_whole, crate::proofs::Answering::broken_whole, crate::proofs::Answering::written_kept, crate::proofs::Answering::broken_kept, crate::proofs::Answering::none_put))]
 fn write_anew<S: Space>(
     alloc: Global,
@@ -253,8 +262,9 @@ fn write_anew<S: Space>(
     supply: usize,
 ) -> Result<SetEnd, TreeError>
     requires { AreGlobal family.now }
-    ensures writes { WritesWithin S.told (class_seen family.now.row.now) (class_seen family.now.leaf.now) sizes key
-        task.now supply (S.contents space.old) (S.contents space.new) (S.log space.old) (S.log space.new) result }
+    ensures writes { WritesWithin S.told (class_seen family.now.row.now)
+        (class_seen family.now.leaf.now) sizes key task.now supply (S.contents space.old)
+        (S.contents space.new) (S.log space.old) (S.log space.new) result }
     ensures refusals { S.told → S.refusals space.new ≡ S.refusals space.old ++ handed_on result }
 {
     let Some(terms) = terms_of(alloc, family, sizes, key)? else {
@@ -284,8 +294,8 @@ fn write_anew<S: Space>(
     Ok(SetEnd::Done)
 }
 
-/// Tries the records that a set puts, draws the numbers of new objects, of which there are so many, and puts all. Where the
-/// numbers that come next are known, it tries the records with these.
+/// Tries the records that a set puts, draws the numbers of new objects, of which there are so many,
+/// and puts all. Where the numbers that come next are known, it tries the records with these.
 fn write<S: Space>(
     alloc: Global,
     space: &mut S,
@@ -297,8 +307,9 @@ fn write<S: Space>(
     numbers: &[Oid],
 ) -> Result<SetEnd, TreeError>
     requires { AreGlobal family.now }
-    ensures writes { WritesWithin S.told (class_seen family.now.row.now) (class_seen family.now.leaf.now) sizes key
-        task.now supply (S.contents space.old) (S.contents space.new) (S.log space.old) (S.log space.new) result }
+    ensures writes { WritesWithin S.told (class_seen family.now.row.now)
+        (class_seen family.now.leaf.now) sizes key task.now supply (S.contents space.old)
+        (S.contents space.new) (S.log space.old) (S.log space.new) result }
     ensures refusals { S.told → S.refusals space.new ≡ S.refusals space.old ++ handed_on result }
 {
     match find_ahead(alloc, family, sizes, &key, task, numbers)? {
@@ -319,7 +330,8 @@ struct Finding {
     task: Task,
 }
 
-/// What a set is to change in the tree with this root: nothing, where the key has the value already.
+/// What a set is to change in the tree with this root: nothing, where the key has the value
+/// already.
 #[tactic(auto, using(crate::proofs::Answering::root_unread, crate::proofs::Answering::no_leaf, crate::proofs::Answering::no_key, crate::proofs::Answering::no_value, crate::proofs::Answering::way_is_refused, crate::proofs::Answering::task_is_refused))]
 fn find_task<S: Space>(
     alloc: Global,
@@ -329,12 +341,15 @@ fn find_task<S: Space>(
     key: &Key,
     value: Option<Text8>,
 ) -> Result<Option<Finding>, TreeError>
-    ensures err { IfErr result (λ e. IsRefusal e (task_under (S.contents space.old) root sizes key.now value)) }
-    ensures ok { IfOk result (λ found. IsFinding (S.contents space.old) root sizes key.now value found) }
+    ensures err { IfErr result
+        (λ e. IsRefusal e (task_under (S.contents space.old) root sizes key.now value)) }
+    ensures ok { IfOk result
+        (λ found. IsFinding (S.contents space.old) root sizes key.now value found) }
     ensures global { IfOk result (λ found. IfSome found (λ x. AreGlobal x.family)) }
     ensures contents { S.contents space.new ≡ S.contents space.old }
     ensures log { IfOk result (λ found. S.told
-        → S.log space.new ≡ S.log space.old ++ reads_under (S.contents space.old) root sizes key.now value) }
+        → S.log space.new ≡ S.log space.old
+        ++ reads_under (S.contents space.old) root sizes key.now value) }
     ensures met { S.told → ReadsFirst (met_under (S.contents space.old) root sizes key.now value)
         (S.log space.old) (S.log space.new) }
     ensures refusals { S.told → S.refusals space.new ≡ S.refusals space.old ++ handed_on result }
@@ -360,9 +375,10 @@ fn find_task<S: Space>(
     Ok(Some(Finding { family, task }))
 }
 
-/// Sets what stands under a key in the tree with this root, where the space can give so many numbers for new objects. Where more
-/// are needed, it says so once all was read and each record tried, and nothing is drawn or put. `numbers` are those that the
-/// space gives next, as far as they are known: they spare a second trial, and change no answer. Where it gives others, the set
+/// Sets what stands under a key in the tree with this root, where the space can give so many
+/// numbers for new objects. Where more are needed, it says so once all was read and each record
+/// tried, and nothing is drawn or put. `numbers` are those that the space gives next, as far as
+/// they are known: they spare a second trial, and change no answer. Where it gives others, the set
 /// ends as for want of memory.
 #[tactic(auto, using(crate::proofs::Answering::refused_before, crate::proofs::Answering::has_none, crate::proofs::Answering::has_task))]
 pub fn set_within<S: Space>(
@@ -404,8 +420,8 @@ pub fn set<S: Space>(
     key: Key,
     value: Option<Text8>,
 ) -> Result<(), TreeError>
-    ensures ways { Sets S.told (S.contents space.old) (S.contents space.new) (S.log space.old) (S.log space.new)
-        root sizes key value result }
+    ensures ways { Sets S.told (S.contents space.old) (S.contents space.new) (S.log space.old)
+        (S.log space.new) root sizes key value result }
     ensures refusals { S.told → S.refusals space.new ≡ S.refusals space.old ++ handed_on result }
 {
     match set_within(alloc, space, root, sizes, key, value, usize::MAX, &[]) {
@@ -415,7 +431,8 @@ pub fn set<S: Space>(
     }
 }
 
-/// The law that the changes of one set are alike, whatever the numbers of new objects are, where one of them can be written.
+/// The law that the changes of one set are alike, whatever the numbers of new objects are, where
+/// one of them can be written.
 pub fn changes_are_alike()
     ensures { ChangesAreAlike }
 {

@@ -42,8 +42,8 @@ fn stands_in(oids: &[Oid], oid: Oid) -> bool
     oids.contains(&oid)
 }
 
-/// An object with the first leaf of its second half, which is read where it isn't known. `above` has the object and
-/// those above it.
+/// An object with the first leaf of its second half, which is read where it isn't known. `above`
+/// has the object and those above it.
 #[tactic(auto, using(crate::proofs::Beside::settled_twice, crate::proofs::Beside::settled_child, crate::proofs::Beside::settled_unread, crate::proofs::Beside::settled_known, crate::proofs::Beside::logged_child, crate::proofs::Beside::logged_none, crate::proofs::Beside::first_child, crate::proofs::Beside::first_child_read, btree_shapes::specs::MetLaws::first_start))]
 fn settle_one<S: Space>(
     alloc: Global,
@@ -58,7 +58,8 @@ fn settle_one<S: Space>(
     ensures answer { Answers result
         (settled (objects_of (S.contents space.old) tree.now.root) fits key.now above.now rung) }
     ensures contents { S.contents space.new ≡ S.contents space.old }
-    ensures log { IfOk result (λ known. S.told → S.log space.new ≡ S.log space.old ++ reads (asked_by rung.seam)) }
+    ensures log { IfOk result
+        (λ known. S.told → S.log space.new ≡ S.log space.old ++ reads (asked_by rung.seam)) }
     ensures met { S.told → ReadsFirst (asked_by rung.seam) (S.log space.old) (S.log space.new) }
     ensures refusals { S.told → S.refusals space.new ≡ S.refusals space.old ++ handed_on result }
 {
@@ -72,8 +73,8 @@ fn settle_one<S: Space>(
     Ok(with_first(rung, first))
 }
 
-/// The objects of a way with the first leaves of their second halves. Those that aren't known are read, from the root
-/// down.
+/// The objects of a way with the first leaves of their second halves. Those that aren't known are
+/// read, from the root down.
 #[tactic(auto, using(crate::proofs::Beside::settle_start, crate::proofs::Beside::settle_step, crate::proofs::Beside::settle_end, crate::proofs::Beside::settle_refused, crate::proofs::Beside::read_start, crate::proofs::Beside::read_step, crate::proofs::Beside::read_end, crate::proofs::Beside::first_step, crate::proofs::Beside::first_end, crate::proofs::Beside::first_refused))]
 pub(crate) fn settle<S: Space>(
     alloc: Global,
@@ -87,7 +88,8 @@ pub(crate) fn settle<S: Space>(
     ensures answer { Answers result
         (settle (objects_of (S.contents space.old) tree.now.root) fits key.now [] rungs) }
     ensures contents { S.contents space.new ≡ S.contents space.old }
-    ensures log { IfOk result (λ known. S.told → S.log space.new ≡ S.log space.old ++ reads (asked rungs)) }
+    ensures log { IfOk result
+        (λ known. S.told → S.log space.new ≡ S.log space.old ++ reads (asked rungs)) }
     ensures met { S.told → ReadsFirst (asked rungs) (S.log space.old) (S.log space.new) }
     ensures refusals { S.told → S.refusals space.new ≡ S.refusals space.old ++ handed_on result }
 {
