@@ -9,7 +9,6 @@ pub mod Spelled
 pub mod Shifts
 pub mod Back
 pub mod Leaves
-pub mod Keyed
 pub mod Depths
 pub mod Shallow
 pub mod Members

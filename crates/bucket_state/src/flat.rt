@@ -9,10 +9,10 @@ ghost use Rattle.bucket_state.specs.Written.{key_text};
 ghost use Rattle.bucket_state.specs.Flat.{IsFlatValue, IsWithItems, IsFlatState, tuple_start, tuple_end, members_of, link_text, next_text};
 
 use crate::items::has_values;
-use crate::writing::key_spelling;
 use btree_family::{Bucket, ClassRow, Item, Key, ValueKind, key_fits, number_fits};
 use byteorder::{BigEndian, ByteOrder};
 use pickle_graph::Node;
+use pickle_writing::leaf_spelling;
 use std::alloc::{AllocError, Global};
 use zb_ids::{Oid, Text8};
 
@@ -73,7 +73,7 @@ fn with_number(alloc: Global, mut text: Text8, number: i128) -> Result<Text8, Al
         text.extend_from_slice(&word.to_le_bytes())?;
         return Ok(text);
     }
-    let spelled = key_spelling(alloc, &Key::Number(number))?;
+    let spelled = leaf_spelling(alloc, &Node::Number(number))?;
     text.extend_from_slice(spelled.as_slice())?;
     Ok(text)
 }
@@ -181,7 +181,7 @@ fn spells_number(
 ) -> Result<bool, AllocError>
     ensures { IfOk result (λ so. IsTrue so → IsFlatValue kind text.now) }
 {
-    let spelled = key_spelling(alloc, &Key::Number(number))?;
+    let spelled = leaf_spelling(alloc, &Node::Number(number))?;
     if is_same(text, spelled.as_slice()) {
         return Ok(number_fits(kind, number));
     }

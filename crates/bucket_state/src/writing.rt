@@ -8,13 +8,13 @@ ghost use Rattle.bucket_state.specs.Trees.{separators_of};
 ghost use Rattle.bucket_state.specs.Written.{key_graph, key_text, value_graph, link_graph, with_value, item_graphs, laid_all, tuple_graph, next_graphs, bucket_graph, none_graph, embedded_graph, child_graphs, inner_graph};
 ghost use Rattle.bucket_state.specs.Writable.{IsWritable, AreWritable};
 
+use crate::flat::with_key;
 use crate::laying::Side;
 use crate::tree::{Branch, Inner};
 use btree_family::{Bucket, ClassRow, Item, Key};
 use byteorder::{BigEndian, ByteOrder};
 use pickle_graph::{Node, Pickle};
 use pickle_reading::read_pickle;
-use pickle_writing::spelling;
 use std::alloc::{AllocError, Global};
 use zb_ids::{ListOf, Oid, Text8};
 
@@ -34,16 +34,11 @@ fn key_pickle(alloc: Global, key: &Key) -> Result<Pickle, AllocError>
 }
 
 /// The spelling of a key, as a node of its own. Want of memory is the one error.
-#[tactic(auto, using(crate::proofs::Keyed::key_spelled))]
 pub fn key_spelling(alloc: Global, key: &Key) -> Result<Text8, AllocError>
     requires { IsWritable key.now }
     ensures { IfOk result (λ text. text ≡ key_text key.now) }
 {
-    let pickle = key_pickle(alloc, key)?;
-    match spelling(alloc, &pickle, pickle.root()) {
-        Ok(text) => Ok(text),
-        Err(_) => Err(AllocError),
-    }
+    with_key(alloc, Text8::new(alloc), key)
 }
 
 /// The graph that a spelling is read as. One of more nodes than a pickle may have is refused as want of memory.

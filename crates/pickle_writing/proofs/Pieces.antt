@@ -13,11 +13,13 @@ use Rattle.pickle_writing.specs.declared.writing.Writing.{Writing}
 use Rattle.pickle_graph.specs.Parts.{parts_of, is_held, held_in}
 use Rattle.pickle_writing.specs.Numbers.{number_of, IsTally, is_many, numbered, nodes_of}
 use Rattle.pickle_writing.specs.Shared.{is_shared}
-use Rattle.pickle_writing.specs.Spelling.{Piece, put_number, fewest, followed, parts_piece, node_piece, piece_of, root_piece, spelling_of}
+use Rattle.pickle_writing.specs.Spelling.{Piece, put_number, fewest, leaf_text, followed, parts_piece, node_piece, piece_of, root_piece, spelling_of}
 use Rattle.pickle_writing.specs.Writing.{with_piece, held_at, IsRootWritten}
+use Rattle.pickle_graph.specs.Parts.{items_at, items_in}
 use Rattle.pickle_graph.specs.Walks.{has_walk}
 use Rattle.pickle_graph.specs.WalkLaws.{cases_bool}
 use Rattle.pickle_writing.proofs.Counts.{many_shared}
+use Rattle.pickle_writing.proofs.Partless.{no_parts}
 
 -- ---- sizes
 
@@ -93,6 +95,27 @@ spelled_ok ns root w h =
 
 pub spelled_deep : (ns : List Node) (root : ℕ) → has_walk (WALK_LIMIT + 1) ns root ≡ true → spelling_of ns root ≡ Err errors.TooDeep
 spelled_deep ns root h = rw h refl
+
+-- ---- a leaf as root
+
+no_walk : (n : ℕ) (ns : List Node) (m : ℕ) → 0 < n → items_at ns m ≡ [] → has_walk n ns m ≡ false
+unfolding has_walk
+no_walk zero ns m some none = absurd (omega arith)
+no_walk (suc n) ns m some none = rw none refl
+
+piece_leaf : (levels : ℕ) (ns : List Node) (shared : ℕ → Bool) (m : ℕ) (puts : List ℕ) (node : Node) → 0 < levels → slice_get ns m ≡ Some node → is_held node ≡ false → (piece_of levels ns shared m puts).text ≡ leaf_text node
+unfolding piece_of
+piece_leaf zero ns shared m puts node some here leaf = absurd (omega arith)
+piece_leaf (suc levels) ns shared m puts node some here leaf = rw (here, leaf) refl
+
+-- a leaf is spelled alike in each graph
+pub leaf_spelled : (ns : List Node) (m : ℕ) (node : Node) → slice_get ns m ≡ Some node → is_held node ≡ false → spelling_of ns m ≡ Ok (leaf_text node)
+leaf_spelled ns m node here leaf =
+    let bare : held_in (slice_get ns m) ≡ false = rw here leaf in
+    let none : items_at ns m ≡ [] = ap items_in (no_parts (slice_get ns m) bare) in
+    let short = no_walk (WALK_LIMIT + 1) ns m (omega arith) none in
+    let text = piece_leaf (WALK_LIMIT + 1) ns (is_shared ns m) m [] node (omega arith) here leaf in
+    rw (short, text) refl
 
 -- ---- a node with items
 

@@ -12,4 +12,4 @@ mod writing;
 pub use depth::WALK_LIMIT;
 pub use error::WriteError;
 pub use laws::cyclic_graphs_are_too_deep;
-pub use writing::{PutNumbers, put_numbers, spelling, write_pickle};
+pub use writing::{PutNumbers, check_depth, leaf_spelling, put_numbers, spelling, write_pickle};

@@ -1,10 +1,10 @@
 //! Writing graphs.
 
-ghost use Rattle.std.specs.Prelude.{◌≡◌, ◌<◌, ◌+◌, ◌++◌, [], ◌∷◌, Some, length, slice_get, true, OnOk, IfOk, IfErr};
+ghost use Rattle.std.specs.Prelude.{◌≡◌, ◌<◌, ◌+◌, ◌++◌, [], ◌∷◌, Some, length, slice_get, false, true, OnOk, IfOk, IfErr};
 ghost use Rattle.pickle_writing.specs.declared.error.WriteError.TheVariants.{TooDeep};
 ghost use Rattle.pickle_writing.specs.Numbers.{is_many};
 ghost use Rattle.pickle_graph.specs.Parts.{object_parts_of, parts_of};
-ghost use Rattle.pickle_writing.specs.Spelling.{get_text, put_number, parts_piece, piece_of, spelling_of, pickle_text, Writes};
+ghost use Rattle.pickle_writing.specs.Spelling.{get_text, leaf_text, put_number, parts_piece, piece_of, spelling_of, pickle_text, Writes};
 ghost use Rattle.pickle_writing.specs.Writing.{with_piece, after_put, held_at, IsRootWritten};
 ghost use Rattle.pickle_graph.specs.Walks.{has_walk};
 
@@ -198,17 +198,45 @@ fn write_root(alloc: Global, nodes: &ListOf<Node>, root: u32) -> Result<Writing,
     Ok(writing)
 }
 
+/// The spelling of a leaf or an empty tuple, which is the same in each graph. Want of memory is the one
+/// error.
+pub fn leaf_spelling(alloc: Global, node: &Node) -> Result<Text8, AllocError>
+    ensures { IfOk result (λ text. text ≡ leaf_text node.now) }
+{
+    let mut text = Text8::new(alloc);
+    write_leaf(&mut text, node)?;
+    Ok(text)
+}
+
 /// The spelling of a node: what [`write_pickle`] writes for it as the root, without PROTO and STOP.
 ///
 /// `TooDeep` is answered exactly where a walk of more than [`WALK_LIMIT`] edges starts at the node. The
 /// time that it takes grows with the edges that the node reaches, not with the graph.
-#[tactic(auto, using(crate::proofs::Pieces::spelled_ok, crate::proofs::Pieces::spelled_deep))]
+#[tactic(auto, using(crate::proofs::Pieces::spelled_ok, crate::proofs::Pieces::spelled_deep, crate::proofs::Pieces::leaf_spelled))]
 pub fn spelling(alloc: Global, pickle: &Pickle, node: u32) -> Result<Text8, WriteError>
     requires { node < length pickle.now.nodes }
     ensures text { Writes result (spelling_of pickle.now.nodes node) }
 {
-    let writing = write_root(alloc, pickle.nodes(), node)?;
+    let nodes = pickle.nodes();
+    if let Some(leaf) = nodes.get(node as usize) {
+        if !is_held(leaf) {
+            let text = leaf_spelling(alloc, leaf)?;
+            return Ok(text);
+        }
+    }
+    let writing = write_root(alloc, nodes, node)?;
     Ok(writing.text)
+}
+
+/// Whether a graph can be written: `TooDeep` is answered exactly where [`write_pickle`] answers it. Want of
+/// memory answers `Memory`.
+pub fn check_depth(alloc: Global, pickle: &Pickle) -> Result<(), WriteError>
+    ensures ok { OnOk result (has_walk (WALK_LIMIT + 1) pickle.now.nodes pickle.now.root ≡ false) }
+    ensures err { IfErr result
+        (λ e. e ≡ TooDeep → has_walk (WALK_LIMIT + 1) pickle.now.nodes pickle.now.root ≡ true) }
+{
+    measure_from(alloc, pickle.nodes(), pickle.root())?;
+    Ok(())
 }
 
 /// The text of a graph: PROTO 3, the text of the root, and STOP. Reading it gives the same graph.

@@ -1,8 +1,6 @@
--- The keys of merged buckets can be written, and refusals are handed on.
-use Rattle.std.proofs.Common.{◌≡◌, List, [], ◌∷◌, Result, Ok, Err, ◌∙◌, ap}
-use Rattle.pickle_graph.specs.Graph.{Graph}
+-- The keys of merged buckets can be written, and so can those that a refusal names.
+use Rattle.std.proofs.Common.{◌≡◌, List, [], ◌∷◌, Ok}
 use Rattle.btree_family.specs.declared.key.Key.{Key}
-use Rattle.btree_family.specs.Classes.{Class}
 use Rattle.btree_family.specs.Buckets.{BucketContents, keys_of}
 use Rattle.bucket_state.specs.Writable.{IsWritable, AreWritable}
 use Rattle.bucket_merge.specs.declared.refusal.MergeRefusal.{MergeRefusal}
@@ -10,10 +8,7 @@ use Rattle.bucket_merge.specs.declared.refusal.MergeRefusal.TheVariants as refus
 use Rattle.bucket_merge.specs.Merge.{merge_of}
 use Rattle.bucket_merge.specs.Kept.{Each, merge_keeps, merge_names}
 use Rattle.bucket_merge.specs.Answers.{RefusesFor}
-use Rattle.zb_model.specs.declared.rules.ResolveError.{ResolveError}
-use Rattle.zb_model.specs.declared.rules.ResolveError.TheVariants as errors
-use Rattle.zb_resolve.specs.Answers.{AnswersFor}
-use Rattle.zb_resolve.specs.Resolution.{RefusedBy, IsWritableRefusal, leaf_merged}
+use Rattle.zb_resolve.specs.Resolution.{IsWritableRefusal}
 
 each_writable : (ks : List Key) → AreWritable ks → Each IsWritable ks
 each_writable [] h = tt
@@ -34,12 +29,3 @@ refusal_writable a b c (refusals.Key k) p q r h =
     merge_names IsWritable a b c k (each_writable (keys_of a.items) p) (each_writable (keys_of b.items) q) (each_writable (keys_of c.items) r) h
 refusal_writable a b c refusals.FirstKey p q r h = tt
 refusal_writable a b c refusals.Memory p q r h = tt
-
--- a refusal of the merge, handed on
-pub handed_on : (class : Class) (r : ResolveError) (e : MergeRefusal) (found : Result BucketContents MergeRefusal) → RefusesFor e found → RefusedBy e r → AnswersFor {A = Graph} (Err r) (leaf_merged class found)
-handed_on class (errors.Refused why) refusals.Link found h g = ap (leaf_merged class) h ∙ ap Err g
-handed_on class (errors.Refused why) refusals.EmptySide found h g = ap (leaf_merged class) h ∙ ap Err g
-handed_on class (errors.Refused why) (refusals.Key k) found h g = ap (leaf_merged class) h ∙ ap Err g
-handed_on class (errors.Refused why) refusals.FirstKey found h g = ap (leaf_merged class) h ∙ ap Err g
-handed_on class (errors.Refused why) refusals.Memory found h g = cc
-handed_on class errors.Memory e found h g = tt

@@ -97,6 +97,11 @@ unless_mixed false merged = Err Unreadable
 abbrev pub graph_bytes : Graph → List ℕ
 graph_bytes g = 0x80 ∷ 3 ∷ ((root_piece g.nodes g.root).text ++ 0x2e ∷ [])
 
+-- the text of a state, where there is one
+abbrev pub state_bytes : Result Graph Why → Result (List ℕ) Why
+state_bytes (Ok state) = Ok (graph_bytes state)
+state_bytes (Err e) = Err e
+
 -- the text of a record of which neither part is too deep to write
 abbrev pub object_bytes : Graph → Graph → List ℕ
 object_bytes class state = graph_bytes class ++ graph_bytes state

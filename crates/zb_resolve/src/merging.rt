@@ -1,11 +1,12 @@
 //! The merge of three records.
 
-ghost use Rattle.std.specs.Prelude.{◌≡◌, true, Some, None, IfOk};
+ghost use Rattle.std.specs.Prelude.{◌≡◌, ◌++◌, [], ◌∷◌, true, Some, None, Ok, IfOk, IfSome};
 ghost use Rattle.pickle_graph.specs.Graph.{IsGlobal};
 ghost use Rattle.btree_family.specs.Classes.{class_seen};
 ghost use Rattle.btree_family.specs.Buckets.{keys_of};
 ghost use Rattle.bucket_state.specs.Writable.{AreWritable};
-ghost use Rattle.bucket_state.specs.Written.{leaf_graph};
+ghost use Rattle.pickle_writing.specs.Spelling.{spelling_of};
+ghost use Rattle.bucket_state.specs.Written.{embedded_graph, leaf_graph};
 ghost use Rattle.bucket_state.specs.Depths.{AreShallow, IsWrittenWhole};
 ghost use Rattle.bucket_merge.specs.Merge.{merge_of};
 ghost use Rattle.zb_model.specs.Merged.{IsMerged};
@@ -13,7 +14,7 @@ ghost use Rattle.pickle_graph.specs.Class.{is_class};
 ghost use Rattle.zb_resolve.specs.Classes.{rule_seen, rule_of, IsGlobalRule};
 ghost use Rattle.zb_resolve.specs.States.{leaf_in, are_alike, depth_of, depth_for, IsWritableState, IsShallowState};
 ghost use Rattle.zb_resolve.specs.Answers.{AnswersFor};
-ghost use Rattle.zb_resolve.specs.Resolution.{leaf_state, leaf_merged, count_merged, leaves_merged, counts_merged, merged_states, unless_mixed, written_object, merged_by, merged_if, IsClassOf};
+ghost use Rattle.zb_resolve.specs.Resolution.{graph_bytes, state_bytes, leaf_state, leaf_merged, count_merged, leaves_merged, counts_merged, merged_states, unless_mixed, merged_by, merged_if, IsClassOf};
 ghost use Rattle.zb_record.specs.Records.{record_of};
 ghost use Rattle.zb_resolve.specs.States;
 
@@ -24,12 +25,16 @@ use crate::rule::{Rule, rule_of};
 use crate::state::{State, are_alike, count, leaf};
 use btree_family::{Bucket, ClassRow, Kind};
 use bucket_merge::merge;
-use bucket_state::{states_keep_their_depth, write_bucket, write_embedded};
+use bucket_state::{
+    flat_state, flat_states_are_spelled, lone_state, lone_states_are_spelled,
+    states_keep_their_depth, write_bucket, write_embedded,
+};
 use pickle_graph::{Node, Pickle};
+use pickle_writing::write_pickle;
 use std::alloc::{AllocError, Global};
 use zb_ids::{ListOf, Text8};
 use zb_model::{ResolveError, Why};
-use zb_record::{ObjectRecord, write_record};
+use zb_record::ObjectRecord;
 
 /// The state of a leaf: of a tree it stands within the tree's state.
 fn leaf_pickle(alloc: Global, row: &ClassRow, leaf: &Bucket) -> Result<Pickle, AllocError>
@@ -47,49 +52,120 @@ fn leaf_pickle(alloc: Global, row: &ClassRow, leaf: &Bucket) -> Result<Pickle, A
     }
 }
 
-/// The state of the merge of three leaves.
+/// The text of a graph that is not too deep.
+#[tactic(auto, using(crate::proofs::Whole::whole_bytes))]
+fn graph_bytes(alloc: Global, graph: &Pickle) -> Result<Text8, AllocError>
+    requires { IsWrittenWhole graph.now }
+    ensures { IfOk result (λ text. text ≡ graph_bytes graph.now) }
+{
+    match write_pickle(alloc, graph) {
+        Ok(text) => Ok(text),
+        Err(_) => Err(AllocError),
+    }
+}
+
+/// A spelling as a pickle: PROTO 3, the spelling, and STOP.
+fn pickle_of(alloc: Global, spelled: &Text8) -> Result<Text8, AllocError>
+    ensures { IfOk result (λ text. text ≡ 0x80 ∷ 3 ∷ (spelled.now ++ 0x2e ∷ [])) }
+{
+    let mut text = Text8::from_slice(alloc, &[0x80, 3])?;
+    text.extend_from_slice(spelled.as_slice())?;
+    text.push(0x2e)?;
+    Ok(text)
+}
+
+/// The spelling of the state of a tree of one leaf whose values are leaves of a graph, made without a
+/// graph.
+fn lone_spelling(alloc: Global, row: &ClassRow, leaf: &Bucket) -> Result<Option<Text8>, AllocError>
+    ensures { IfOk result (λ found. IfSome found (λ text.
+        spelling_of (embedded_graph leaf.now.items).nodes (embedded_graph leaf.now.items).root
+        ≡ Ok text)) }
+{
+    lone_states_are_spelled();
+    lone_state(alloc, leaf, row)
+}
+
+/// The same of a leaf: of a tree it stands within the tree's state.
+fn flat_spelling(alloc: Global, row: &ClassRow, leaf: &Bucket) -> Result<Option<Text8>, AllocError>
+    ensures { IfOk result (λ found. IfSome found (λ text.
+        spelling_of (leaf_state (class_seen row.now) leaf.now).nodes
+        (leaf_state (class_seen row.now) leaf.now).root ≡ Ok text)) }
+{
+    flat_states_are_spelled();
+    match row.kind {
+        Kind::Bucket | Kind::Set => flat_state(alloc, leaf, row),
+        Kind::Tree | Kind::TreeSet => lone_spelling(alloc, row, leaf),
+    }
+}
+
+/// The text of such a state.
+#[tactic(auto, using(crate::proofs::Whole::spelled_bytes))]
+fn flat_bytes(alloc: Global, row: &ClassRow, leaf: &Bucket) -> Result<Option<Text8>, AllocError>
+    ensures { IfOk result (λ found. IfSome found
+        (λ text. text ≡ graph_bytes (leaf_state (class_seen row.now) leaf.now))) }
+{
+    let Some(spelled) = flat_spelling(alloc, row, leaf)? else {
+        return Ok(None);
+    };
+    Ok(Some(pickle_of(alloc, &spelled)?))
+}
+
+/// The text of the state of a leaf.
+fn leaf_bytes(alloc: Global, row: &ClassRow, leaf: &Bucket) -> Result<Text8, AllocError>
+    requires keys { AreWritable (keys_of leaf.now.items) }
+    requires shallow { AreShallow (depth_of row.now.kind) leaf.now.items }
+    requires class { IsGlobal row.now.module.now row.now.name.now }
+    ensures { IfOk result (λ text. text ≡ graph_bytes (leaf_state (class_seen row.now) leaf.now)) }
+{
+    if let Some(text) = flat_bytes(alloc, row, leaf)? {
+        return Ok(text);
+    }
+    let state = leaf_pickle(alloc, row, leaf)?;
+    graph_bytes(alloc, &state)
+}
+
+/// The text of the state of the merge of three leaves.
 fn merge_buckets(
     alloc: Global,
     row: &ClassRow,
     old: &Bucket,
     committed: &Bucket,
     stored: &Bucket,
-) -> Result<Pickle, ResolveError>
+) -> Result<Text8, ResolveError>
     requires old { AreWritable (keys_of old.now.items) }
     requires committed { AreWritable (keys_of committed.now.items) }
     requires stored { AreWritable (keys_of stored.now.items) }
     requires committed_depth { AreShallow (depth_of row.now.kind) committed.now.items }
     requires stored_depth { AreShallow (depth_of row.now.kind) stored.now.items }
     requires class { IsGlobal row.now.module.now row.now.name.now }
-    ensures state { AnswersFor result (leaf_merged (class_seen row.now) (merge_of old.now committed.now stored.now)) }
-    ensures whole { IfOk result (λ graph. IsWrittenWhole graph) }
+    ensures state { AnswersFor result
+        (state_bytes (leaf_merged (class_seen row.now) (merge_of old.now committed.now stored.now))) }
 {
     match merge(alloc, old, committed, stored) {
         Ok(leaf) => {
-            let state = leaf_pickle(alloc, row, &leaf)?;
+            let state = leaf_bytes(alloc, row, &leaf)?;
             Ok(state)
         }
         Err(refusal) => Err(refused(alloc, refusal)),
     }
 }
 
-/// The state of the merge of three objects of a class of BTrees.
+/// The text of the state of the merge of three objects of a class of BTrees.
 fn merge_leaves(
     alloc: Global,
     row: &ClassRow,
     old: &State,
     committed: &State,
     stored: &State,
-) -> Result<Pickle, ResolveError>
+) -> Result<Text8, ResolveError>
     requires old { IsWritableState old.now }
     requires committed { IsWritableState committed.now }
     requires stored { IsWritableState stored.now }
     requires committed_depth { IsShallowState (depth_of row.now.kind) committed.now }
     requires stored_depth { IsShallowState (depth_of row.now.kind) stored.now }
     requires class { IsGlobal row.now.module.now row.now.name.now }
-    ensures state { AnswersFor result (leaves_merged (class_seen row.now)
-        (States.leaf_in old.now) (States.leaf_in committed.now) (States.leaf_in stored.now)) }
-    ensures whole { IfOk result (λ graph. IsWrittenWhole graph) }
+    ensures state { AnswersFor result (state_bytes (leaves_merged (class_seen row.now)
+        (States.leaf_in old.now) (States.leaf_in committed.now) (States.leaf_in stored.now))) }
 {
     let Some(a) = leaf(old) else {
         return Err(ResolveError::Refused(Why::NotEmbedded));
@@ -114,28 +190,27 @@ fn number_pickle(alloc: Global, number: i128) -> Result<Pickle, AllocError>
     Ok(Pickle::new(ListOf::from_vec(nodes), 0))
 }
 
-/// The state of a counter that has come to a number.
-fn count_pickle(alloc: Global, count: Option<i128>) -> Result<Pickle, ResolveError>
-    ensures state { AnswersFor result (count_merged count) }
-    ensures whole { IfOk result (λ graph. IsWrittenWhole graph) }
+/// The text of the state of a counter that has come to a number.
+fn count_bytes(alloc: Global, count: Option<i128>) -> Result<Text8, ResolveError>
+    ensures state { AnswersFor result (state_bytes (count_merged count)) }
 {
     let Some(number) = count else {
         return Err(ResolveError::Refused(Why::Overflow));
     };
     let state = number_pickle(alloc, number)?;
-    Ok(state)
+    let text = graph_bytes(alloc, &state)?;
+    Ok(text)
 }
 
-/// The state of the merge of three counters.
+/// The text of the state of the merge of three counters.
 fn merge_counts(
     alloc: Global,
     old: &State,
     committed: &State,
     stored: &State,
-) -> Result<Pickle, ResolveError>
-    ensures state { AnswersFor result (counts_merged
-        (States.count_in old.now) (States.count_in committed.now) (States.count_in stored.now)) }
-    ensures whole { IfOk result (λ graph. IsWrittenWhole graph) }
+) -> Result<Text8, ResolveError>
+    ensures state { AnswersFor result (state_bytes (counts_merged
+        (States.count_in old.now) (States.count_in committed.now) (States.count_in stored.now))) }
 {
     let Some(a) = count(old) else {
         return Err(ResolveError::Refused(Why::NotEmbedded));
@@ -146,26 +221,26 @@ fn merge_counts(
     let Some(c) = count(stored) else {
         return Err(ResolveError::Refused(Why::NotEmbedded));
     };
-    count_pickle(alloc, joint_count(a, b, c))
+    count_bytes(alloc, joint_count(a, b, c))
 }
 
-/// The state of the merge of three objects.
+/// The text of the state of the merge of three objects.
 fn merge_states(
     alloc: Global,
     rule: Rule,
     old: &State,
     committed: &State,
     stored: &State,
-) -> Result<Pickle, ResolveError>
+) -> Result<Text8, ResolveError>
     requires old { IsWritableState old.now }
     requires committed { IsWritableState committed.now }
     requires stored { IsWritableState stored.now }
     requires committed_depth { IsShallowState (depth_for (rule_seen rule)) committed.now }
     requires stored_depth { IsShallowState (depth_for (rule_seen rule)) stored.now }
     requires class { IsGlobalRule rule }
-    ensures state { AnswersFor result (unless_mixed (are_alike old.now committed.now stored.now)
-        (merged_states (rule_seen rule) old.now committed.now stored.now)) }
-    ensures whole { IfOk result (λ graph. IsWrittenWhole graph) }
+    ensures state { AnswersFor result
+        (state_bytes (unless_mixed (are_alike old.now committed.now stored.now)
+        (merged_states (rule_seen rule) old.now committed.now stored.now))) }
 {
     if !are_alike(old, committed, stored) {
         return Err(ResolveError::Refused(Why::Unreadable));
@@ -176,21 +251,18 @@ fn merge_states(
     }
 }
 
-/// The text of a record of which neither part is too deep.
-#[tactic(auto, using(crate::proofs::Whole::whole_text))]
-fn object_bytes(alloc: Global, object: &ObjectRecord) -> Result<Text8, ResolveError>
-    requires class { IsWrittenWhole object.now.class }
-    requires state { IsWrittenWhole object.now.state }
-    ensures { AnswersFor result (written_object object.now.class object.now.state) }
+/// The text of a record of a class that isn't too deep, and a state that is written.
+fn object_bytes(alloc: Global, class: &Pickle, state: &Text8) -> Result<Text8, AllocError>
+    requires { IsWrittenWhole class.now }
+    ensures { IfOk result (λ text. text ≡ graph_bytes class.now ++ state.now) }
 {
-    match write_record(alloc, object) {
-        Ok(text) => Ok(text),
-        Err(_) => Err(ResolveError::Memory),
-    }
+    let mut text = graph_bytes(alloc, class)?;
+    text.extend_from_slice(state.as_slice())?;
+    Ok(text)
 }
 
 /// The merge of three records by a rule, with the class of the stored one.
-#[tactic(auto, using(crate::proofs::Whole::class_whole))]
+#[tactic(auto, using(crate::proofs::Whole::state_behind, crate::proofs::Whole::refused_behind))]
 fn merge_by(
     alloc: Global,
     rule: Rule,
@@ -208,7 +280,8 @@ fn merge_by(
     let mine = read_readable(alloc, rule, committed)?;
     let theirs = read_readable(alloc, rule, stored)?;
     let state = merge_states(alloc, rule, &was, &mine, &theirs)?;
-    object_bytes(alloc, &ObjectRecord { class, state })
+    let text = object_bytes(alloc, &class, &state)?;
+    Ok(text)
 }
 
 /// The merge of three records by the rule of the stored one's class, with that class.

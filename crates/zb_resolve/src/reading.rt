@@ -1,22 +1,38 @@
 //! Records of which the states are merged.
 
-ghost use Rattle.std.specs.Prelude.{IfOk};
+ghost use Rattle.std.specs.Prelude.{◌≡◌, true, false, IfOk, IfErr, OnOk};
+ghost use Rattle.bucket_state.specs.declared.error.StateError.TheVariants.{BadState};
 ghost use Rattle.bucket_state.specs.Answers.{AnswersFound};
+ghost use Rattle.bucket_state.specs.Depths.{IsWrittenWhole};
+ghost use Rattle.zb_record.specs.Records.{object_text};
 ghost use Rattle.zb_resolve.specs.Classes.{rule_seen};
-ghost use Rattle.zb_resolve.specs.States.{readable, depth_for, IsWritableState, IsShallowState};
+ghost use Rattle.zb_resolve.specs.States.{readable, is_written, depth_for, IsWritableState, IsShallowState};
 ghost use Rattle.zb_resolve.specs.Answers.{AnswersFor};
 ghost use Rattle.zb_resolve.specs.Resolution.{found_state};
 
 use crate::rule::{Rule, is_class_of};
 use crate::state::{State, read_state};
 use bucket_state::StateError;
+use pickle_writing::check_depth;
 use std::alloc::Global;
 use zb_model::{ResolveError, Why};
-use zb_record::{RecordError, read_record, write_record};
+use zb_record::{ObjectRecord, RecordError, read_record};
+
+/// Whether neither part of a record is too deep to write: else `BadState`.
+#[tactic(auto, using(crate::proofs::Whole::whole_is_written, crate::proofs::Whole::deep_class, crate::proofs::Whole::deep_state))]
+fn check_depths(alloc: Global, object: &ObjectRecord) -> Result<(), StateError>
+    ensures ok { OnOk result (is_written (object_text object.now.class object.now.state) ≡ true) }
+    ensures whole { OnOk result (IsWrittenWhole object.now.state) }
+    ensures bad { IfErr result (λ e. e ≡ BadState
+        → is_written (object_text object.now.class object.now.state) ≡ false) }
+{
+    check_depth(alloc, &object.class)?;
+    check_depth(alloc, &object.state)?;
+    Ok(())
+}
 
 /// The state that a record of a rule's class holds. `BadState` where the bytes hold none, or where they are too deep
 /// to write.
-#[tactic(auto, using(crate::proofs::Whole::state_whole))]
 fn read_object(alloc: Global, rule: Rule, bytes: &[u8]) -> Result<State, StateError>
     ensures state { AnswersFound result (readable (rule_seen rule) bytes.now) }
     ensures writable { IfOk result (λ state. IsWritableState state) }
@@ -32,7 +48,7 @@ fn read_object(alloc: Global, rule: Rule, bytes: &[u8]) -> Result<State, StateEr
     if !is_class_of(rule, &object.class) {
         return Err(StateError::BadState);
     }
-    let _text = write_record(alloc, &object)?;
+    check_depths(alloc, &object)?;
     read_state(alloc, rule, &object.state)
 }
 

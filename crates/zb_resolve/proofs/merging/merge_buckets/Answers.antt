@@ -1,22 +1,16 @@
 use Rattle.zb_resolve.specs.States.{depth_of}
 use Rattle.zb_resolve.proofs.Whole.{merged_shallow}
-use Rattle.btree_family.specs.Classes.{class_seen}
-use Rattle.bucket_merge.specs.Merge.{merge_of}
-use Rattle.zb_resolve.proofs.Buckets.{merged_writable, refusal_writable, handed_on}
+use Rattle.zb_resolve.proofs.Buckets.{merged_writable, refusal_writable}
 use Rattle.zb_resolve.proofs.merging.merge_buckets.Goals as goal
 
-pub leaf_pickle-requires-clause-keys : goal.leaf_pickle-requires-clause-keys
-leaf_pickle-requires-clause-keys c =
+pub leaf_bytes-requires-clause-keys : goal.leaf_bytes-requires-clause-keys
+leaf_bytes-requires-clause-keys c =
     merged_writable c.args.old.now c.args.committed.now c.args.stored.now c.in-Ok.leaf c.requires.old c.requires.committed c.requires.stored c.in-Ok.ensures
 
-pub leaf_pickle-requires-clause-shallow : goal.leaf_pickle-requires-clause-shallow
-leaf_pickle-requires-clause-shallow c =
+pub leaf_bytes-requires-clause-shallow : goal.leaf_bytes-requires-clause-shallow
+leaf_bytes-requires-clause-shallow c =
     merged_shallow (depth_of c.args.row.now.kind) c.args.old.now c.args.committed.now c.args.stored.now c.in-Ok.leaf c.requires.committed_depth c.requires.stored_depth c.in-Ok.ensures
 
 pub refused-requires : goal.refused-requires
 refused-requires c =
     refusal_writable c.args.old.now c.args.committed.now c.args.stored.now c.in-Err.refusal c.requires.old c.requires.committed c.requires.stored c.in-Err.ensures
-
-pub returns-in-Err-clause-state : goal.returns-in-Err-clause-state
-returns-in-Err-clause-state c =
-    handed_on (class_seen c.args.row.now) c.refused.result c.in-Err.refusal (merge_of c.args.old.now c.args.committed.now c.args.stored.now) c.in-Err.ensures c.refused.ensures
