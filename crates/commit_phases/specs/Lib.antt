@@ -4,4 +4,5 @@ pub mod Kept
 pub mod Pending
 pub mod ReadyLaws
 pub mod Resolving
+pub mod TakingLaws
 pub mod Voted

@@ -63,11 +63,7 @@ fn store_all(work: &mut OpenWork, stores: ListOf<PendingStore>) -> Result<(), Re
     if work.is_voted {
         return Err(Refusal::Voted);
     }
-    match work.waiting.store_all(stores) {
-        Ok(()) => Ok(()),
-        Err(PendingError::TooLong { length }) => Err(Refusal::TooLong { length }),
-        Err(PendingError::Memory) => Err(Refusal::Memory),
-    }
+    store_told(work.waiting.store_all(stores))
 }
 
 /// A check waits for the vote of this transaction.
@@ -234,7 +230,34 @@ pub(crate) fn roll_back_in(
     }
 }
 
+/// The work of an open transaction.
+pub(crate) fn opened(is_open: bool, work: &Option<OpenWork>) -> Result<&OpenWork, Refusal>
+    ensures ok { IfOk result (λ opened. open_work is_open work.now ≡ Ok opened.now) }
+    ensures err { IfErr result (λ r. open_work is_open work.now ≡ Err r) }
+{
+    if !is_open {
+        return Err(Refusal::NotOpen);
+    }
+    match work {
+        Some(work) => Ok(work),
+        None => Err(Refusal::NoTransaction),
+    }
+}
+
+/// The work of an open transaction that isn't voted.
+fn unvoted(is_open: bool, work: &Option<OpenWork>) -> Result<&OpenWork, Refusal>
+    ensures ok { IfOk result (λ unvoted. changeable (open_work is_open work.now) ≡ Ok unvoted.now) }
+    ensures err { IfErr result (λ r. changeable (open_work is_open work.now) ≡ Err r) }
+{
+    let work = opened(is_open, work)?;
+    if work.is_voted {
+        return Err(Refusal::Voted);
+    }
+    Ok(work)
+}
+
 /// What waits for the vote in an open transaction that isn't voted: the stores and deletes, and the checks.
+#[tactic(auto, using(crate::proofs::Votable::votable))]
 pub(crate) fn parts_in(
     is_open: bool,
     work: &Option<OpenWork>,
@@ -245,27 +268,7 @@ pub(crate) fn parts_in(
     ensures err { IfErr result (λ r. (changeable (open_work is_open work.now) ≡ Err r)
         ⊎ ((w : Work) × (changeable (open_work is_open work.now) ≡ Ok w) × (r ≡ refusal.Memory))) }
 {
-    if !is_open {
-        return Err(Refusal::NotOpen);
-    }
-    match work {
-        Some(work) => parts(work),
-        None => Err(Refusal::NoTransaction),
-    }
-}
-
-/// What waits for the vote in this transaction, which isn't voted.
-#[tactic(auto, using(crate::proofs::Votable::votable))]
-fn parts(work: &OpenWork) -> Result<(ListOf<PendingStore>, ListOf<PendingCheck>), Refusal>
-    ensures ok { IfOk result (λ parts. (unvoted_work work.now ≡ Ok work.now)
-        × (parts.0 ≡ work.now.pending.stores) × (parts.1 ≡ work.now.pending.checks)) }
-    ensures votable { IfOk result (λ parts. AreVotable parts.0) }
-    ensures err { IfErr result (λ r. (unvoted_work work.now ≡ Err r)
-        ⊎ ((unvoted_work work.now ≡ Ok work.now) × (r ≡ refusal.Memory))) }
-{
-    if work.is_voted {
-        return Err(Refusal::Voted);
-    }
+    let work = unvoted(is_open, work)?;
     match work.waiting.parts() {
         Ok(parts) => Ok(parts),
         Err(_) => Err(Refusal::Memory),
@@ -277,15 +280,7 @@ pub(crate) fn unmixed_in(is_open: bool, work: &Option<OpenWork>) -> Result<(), R
     ensures ok { OnOk result (IsOk (followed_by (changeable (open_work is_open work.now)) unmixed)) }
     ensures err { IfErr result (λ r. followed_by (changeable (open_work is_open work.now)) unmixed ≡ Err r) }
 {
-    if !is_open {
-        return Err(Refusal::NotOpen);
-    }
-    let Some(work) = work else {
-        return Err(Refusal::NoTransaction);
-    };
-    if work.is_voted {
-        return Err(Refusal::Voted);
-    }
+    let work = unvoted(is_open, work)?;
     let stores = work.waiting.count();
     if stores == 0 {
         Ok(())
@@ -304,15 +299,7 @@ pub(crate) fn base_in(
         × (base ≡ option_map (λ p. p.base) (pending_of w.pending.stores oid))) }
     ensures err { IfErr result (λ r. changeable (open_work is_open work.now) ≡ Err r) }
 {
-    if !is_open {
-        return Err(Refusal::NotOpen);
-    }
-    let Some(work) = work else {
-        return Err(Refusal::NoTransaction);
-    };
-    if work.is_voted {
-        return Err(Refusal::Voted);
-    }
+    let work = unvoted(is_open, work)?;
     Ok(work.waiting.base_of(oid))
 }
 
@@ -327,12 +314,7 @@ pub(crate) fn waiting_in(
     ensures err { IfErr result (λ r. (open_work is_open work.now ≡ Err r)
         ⊎ ((w : Work) × (open_work is_open work.now ≡ Ok w) × (r ≡ refusal.Memory))) }
 {
-    if !is_open {
-        return Err(Refusal::NotOpen);
-    }
-    let Some(work) = work else {
-        return Err(Refusal::NoTransaction);
-    };
+    let work = opened(is_open, work)?;
     match work.waiting.copy_of(oid) {
         Ok(store) => Ok(store),
         Err(_) => Err(Refusal::Memory),

@@ -6,8 +6,9 @@ ghost use Rattle.zb_model.specs.declared.refusal.Refusal.TheVariants as refusal;
 ghost use Rattle.connection_view.specs.Loading.{IsServerRefusal, Reads};
 ghost use Rattle.connection_view.specs.Works.{Work};
 ghost use Rattle.connection_view.specs.Views.{Client, View, renewed};
-ghost use Rattle.connection_view.specs.Connections.{Between, InView, IsNewWork, IsFrontBy, IsReadBy, begin_refusal, open_work, work_of};
+ghost use Rattle.connection_view.specs.Connections.{Between, InView, IsNewWork, IsFrontBy, IsReadBy, begin_refusal, work_of};
 
+use crate::changing::opened;
 use crate::loads::Loads;
 use crate::named::{Named, forget};
 use crate::reading::{Sight, read};
@@ -193,24 +194,10 @@ impl Connection {
             × (sight.switches ≡ w.switches)) }
         ensures err { IfErr result (λ r. work_of self.now ≡ Err r) }
     {
-        sight_in(self.is_open, &self.work)
-    }
-}
-
-/// Where an open transaction sees from.
-fn sight_in(is_open: bool, work: &Option<OpenWork>) -> Result<Sight, Refusal>
-    ensures ok { IfOk result (λ sight. (w : Work) × (open_work is_open work.now ≡ Ok w) × (sight.front ≡ w.front)
-        × (sight.switches ≡ w.switches)) }
-    ensures err { IfErr result (λ r. open_work is_open work.now ≡ Err r) }
-{
-    if !is_open {
-        return Err(Refusal::NotOpen);
-    }
-    match work {
-        None => Err(Refusal::NoTransaction),
-        Some(work) => Ok(Sight {
+        let work = opened(self.is_open, &self.work)?;
+        Ok(Sight {
             front: work.front,
             switches: work.switches,
-        }),
+        })
     }
 }

@@ -4,7 +4,7 @@ ghost use Rattle.std.specs.Prelude.{◌≡◌, IfErr, IfOk};
 ghost use Rattle.connection_view.specs.Loading.{Reads};
 ghost use Rattle.zb_model.specs.declared.refusal.Refusal.TheVariants as refusal;
 ghost use Rattle.connection_view.specs.Views.{Client, Later, View, current};
-ghost use Rattle.connection_view.specs.Connections.{CachesView, IsLoadedBy, IsReadBy};
+ghost use Rattle.connection_view.specs.Connections.{CachesView, IsReadBy};
 
 use crate::loads::{Loaded, Loads};
 use object_cache::ObjectCache;
@@ -24,7 +24,7 @@ pub(crate) struct Sight {
 
 /// The serial and the bytes that an object has in a view: what is cached of it, or else what is loaded, which is
 /// cached then.
-#[tactic(auto, using(crate::proofs::Answered::found_read, crate::proofs::Answered::same_cached))]
+#[tactic(auto, using(crate::proofs::Answered::found_read, crate::proofs::Answered::same_cached, crate::proofs::Answered::server_unread, crate::proofs::Answered::held_read, crate::proofs::Answered::missing_read))]
 pub(crate) fn read<L: Loads>(
     cache: &mut ObjectCache,
     loads: &mut L,
@@ -45,30 +45,9 @@ pub(crate) fn read<L: Loads>(
         Err(_) => return Err(Refusal::Memory),
         Ok(found) => found,
     };
-    match found {
-        Some((serial, bytes)) => Ok((serial, bytes)),
-        None => load(cache, loads, sight, oid),
+    if let Some((serial, bytes)) = found {
+        return Ok((serial, bytes));
     }
-}
-
-/// The serial and the bytes that an object has in a view: what is loaded, which is cached then.
-#[tactic(auto, using(crate::proofs::Answered::server_unread, crate::proofs::Answered::held_read, crate::proofs::Answered::missing_read))]
-fn load<L: Loads>(
-    cache: &mut ObjectCache,
-    loads: &mut L,
-    sight: &Sight,
-    oid: Oid,
-) -> Result<(Tid, Text8), Refusal>
-    ensures reads { (u : View) (c : Client) → L.stands loads.old c → Later u c.told → u.front ≡ sight.now.front
-        → u.switches ≡ sight.now.switches → CachesView u cache.old.objects → Reads u (L.state loads.old) oid result }
-    ensures cached { (u : View) (c : Client) → L.stands loads.old c → Later u c.told → u.front ≡ sight.now.front
-        → CachesView u cache.old.objects → CachesView u cache.new.objects }
-    ensures stands { (c : Client) → L.stands loads.old c → L.stands loads.new c }
-    ensures state { L.told → L.state loads.new ≡ L.state loads.old }
-    ensures makes { IsLoadedBy L.makes loads.old loads.new oid sight.now.front sight.now.switches result }
-    ensures place { L.place loads.new ≡ L.place loads.old }
-    ensures capacity { cache.new.capacity ≡ cache.old.capacity }
-{
     let loaded = match loads.load(oid, sight.front) {
         Err(refusal) => return Err(refusal),
         Ok(loaded) => loaded,

@@ -1,5 +1,6 @@
 -- Laws of the machine, each as it is stated.
-use Rattle.zodb_core.specs.HistoryLaws.{entry_numbers, fronts_rise, history_counts, left_greatest, numbers_new, step_answered}
+use Rattle.zodb_core.specs.HistoryLaws.{entry_numbers, fronts_rise, history_counts, left_greatest, numbers_new}
+use Rattle.zodb_core.specs.StepLaws.{step_answered}
 use Rattle.zodb_core.specs.Laws.{CountsNeverFall, EndingsKeepSound, FrontsNeverFall, GreatestNeverFalls, HistoriesKeepSound, HistoriesOnlyGrow, HistoriesComeTo, ListsArePackedAsAsked, ListsOnlyGrow, ListsStayDatabases, MachineStartsSound, NewNumbersAreNew, NewestNeverFalls, NumbersComeBehindGreatest, OpeningsKeepSound, PacksKeepFronts, PacksKeepViews, RecordsBelowFrontsStood, StatesBelowFrontsStay, StepsAreAnswered, StepsGrowOrPack, StepsKeepSound, StepsPackAsMarked, TurnsKeepLists}
 use Rattle.zodb_core.specs.Machine.{machine_over}
 use Rattle.zodb_core.specs.SoundLaws.{content_grown, front_come, history_grows, history_comes, history_sound, left_becomes, left_grows, left_sound, newest_come, opened_sound, over_sound, revision_grown, step_sound}

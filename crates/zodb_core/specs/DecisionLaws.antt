@@ -80,7 +80,7 @@ answers_or (Some r) other first second = first
 -- ---- a vote writes the objects of its stores
 
 -- the changes have these objects, in their order
-abbrev HaveOids : List ℕ → Result (List Change) Refusal → Type 0
+abbrev pub HaveOids : List ℕ → Result (List Change) Refusal → Type 0
 HaveOids oids (Ok changes) = map (λ c. c.oid) changes ≡ oids
 HaveOids oids (Err r) = IsOfDecision r
 
@@ -147,7 +147,7 @@ checked_oids list checks oids (Ok changes) have =
     refused_oids oids changes (option_or (failed_check list checks) (too_long changes)) have
     (decides_or (failed_check list checks) (too_long changes) (check_answers list checks) (long_answers (excess_of (map (λ (c : Change). length_of_content c.content) changes))))
 
-vote_oids : (rules : MergeRules) (list : List Transaction) (pending : PendingChanges) → HaveOids (map (λ p. p.oid) pending.stores) (vote_decision rules list pending)
+pub vote_oids : (rules : MergeRules) (list : List Transaction) (pending : PendingChanges) → HaveOids (map (λ p. p.oid) pending.stores) (vote_decision rules list pending)
 unfolding vote_decision
 vote_oids rules list pending = checked_oids list pending.checks (map (λ p. p.oid) pending.stores) (changes_of_stores rules list pending.stores) (stores_oids rules list pending.stores)
 

@@ -22,41 +22,6 @@ use Rattle.zodb_core.specs.Steps.{Stepped, loaded, step_of}
 
 -- ---- steps are answered
 
-found_answered : (m : Machine) (oid : ℕ) (f : Found) → outcome_of (loaded m oid f) ≡ Answered
-found_answered m oid (found.Held serial bytes end) = refl
-found_answered m oid (found.Absent serial) = refl
-found_answered m oid found.Nothing = refl
-
-answered_cases : (m : Machine) (n : ℕ) (q : Request) → StepCases (λ s. outcome_of s.reply ≡ Answered) m n q
-answered_cases m n q = record {
-  refused = λ r is. is.0;
-  full = λ count. refl;
-  spent = refl;
-  told = refl;
-  found = found_answered m;
-  numbers = λ count. refl;
-  nothing = refl;
-  written = λ texts changes tid each later bounded. refl;
-  emptied = refl;
-  committed = λ v t is writes. refl;
-  dropped = refl;
-  listed = λ revisions. refl;
-  logged = λ lines. refl;
-  begun = λ is t collects none below. refl;
-  marking = λ is p count there. refl;
-  marked = λ is p keep there. refl;
-  copying = λ is p k copied count there copying. refl;
-  copied = λ is p k copied count there copying. refl;
-  lost = λ is r answers. answers.0;
-  packed = λ is t keep free below. refl;
-  last = refl;
-  since = λ tid changes. refl;
-  closed = refl;
-}
-
-pub step_answered : (rules : Rules) (m : Machine) (n : ℕ) (q : Request) (stamp : ℕ) → outcome_of (step_of rules m n q stamp).reply ≡ Answered
-step_answered rules m n q stamp = by_step (λ s. outcome_of s.reply ≡ Answered) rules m n q stamp (answered_cases m n q)
-
 -- a step that was made and is answered is the machine's
 made_as : (rules : Rules) (m : Machine) (n : ℕ) (q : Request) (stamp : ℕ) (made : Stepped) (a b : FaultCounts) (o : StepOutcome) → o ≡ Answered → EndsFor rules m n q stamp made a b o → made ≡ step_of rules m n q stamp
 made_as rules m n q stamp made a b Answered is ends = ends

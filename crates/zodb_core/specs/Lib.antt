@@ -19,6 +19,7 @@ pub mod Sound
 pub mod SoundLaws
 pub mod Stamps
 pub mod StepCases
+pub mod StepLaws
 pub mod Steps
 pub mod SwitchLaws
 pub mod Telling

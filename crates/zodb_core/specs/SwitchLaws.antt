@@ -9,7 +9,6 @@ use Rattle.std.proofs.lemmas.Option.{same_Some}
 use Rattle.zb_model.specs.declared.data.Content.{Content}
 use Rattle.zb_model.specs.declared.data.Content.TheVariants.{Held, Absent}
 use Rattle.zb_model.specs.declared.data.Transaction.{Transaction}
-use Rattle.zb_model.specs.declared.found.Found.{Found}
 use Rattle.zb_model.specs.declared.found.Found.TheVariants as found
 use Rattle.zb_model.specs.declared.refusal.Refusal.{Refusal}
 use Rattle.zb_model.specs.Database.{IsDatabase, ObjectRevision, newest_tid, revision_below}
@@ -28,8 +27,9 @@ use Rattle.zodb_core.specs.PackLaws.{newest_packed}
 use Rattle.zodb_core.specs.Seen.{KeepsSeen, KeepsViews, PackGoal, goal_of_open, pack_goal}
 use Rattle.zodb_core.specs.Sound.{Becomes, BecomesAsMarked, GrowsByOne, IsPackOf, IsPackWithin, IsSoundMachine, ComesTo, moved, unmoved}
 use Rattle.zodb_core.specs.SoundLaws.{front_come, grows_to, left_grows, revision_grown}
-use Rattle.zodb_core.specs.StepCases.{PackCases, StepCases, allowed_request, by_pack_step, by_step, by_unanswered, pack_free}
-use Rattle.zodb_core.specs.Steps.{Stepped, begin_step, early_refusal, loaded, pack_refusal, pack_step, pack_tid, step_of, switched, unless_early, unless_unread}
+use Rattle.zodb_core.specs.StepCases.{PackCases, allowed_request, by_pack_step, by_unanswered, pack_free}
+use Rattle.zodb_core.specs.StepLaws.{step_unpacked}
+use Rattle.zodb_core.specs.Steps.{Stepped, begin_step, early_refusal, pack_refusal, pack_step, pack_tid, step_of, switched, unless_early, unless_unread}
 
 -- ---- what views see
 
@@ -81,45 +81,6 @@ asked_cases named m n q = record {
   lost = λ r answers is. absurd cc;
   packed = λ g goal free below is. record { to = g; asked = goal; is = refl };
 }
-
--- only a request on a pack packs
-abbrev IsUnpacked : Stepped → Type 0
-IsUnpacked s = is_packed s.reply ≡ false
-
-unpacked_found : (m : Machine) (oid : ℕ) (f : Found) → is_packed (loaded m oid f) ≡ false
-unpacked_found m oid (found.Held serial bytes end) = refl
-unpacked_found m oid (found.Absent serial) = refl
-unpacked_found m oid found.Nothing = refl
-
-unpacked_cases : (m : Machine) (n : ℕ) (q : Request) → is_pack q ≡ false → StepCases IsUnpacked m n q
-unpacked_cases m n q not = record {
-  refused = λ r is. refl;
-  full = λ count. refl;
-  spent = refl;
-  told = refl;
-  found = unpacked_found m;
-  numbers = λ count. refl;
-  nothing = refl;
-  written = λ texts changes tid each later bounded. refl;
-  emptied = refl;
-  committed = λ v t is writes. refl;
-  dropped = refl;
-  listed = λ revisions. refl;
-  logged = λ lines. refl;
-  begun = λ is t collects none below. refl;
-  marking = λ is p count there. refl;
-  marked = λ is p keep there. refl;
-  copying = λ is p k copied count there copying. refl;
-  copied = λ is p k copied count there copying. refl;
-  lost = λ is r answers. refl;
-  packed = λ is t keep free below. absurd (true≢false (sym is ∙ not));
-  last = refl;
-  since = λ tid changes. refl;
-  closed = refl;
-}
-
-pub step_unpacked : (rules : Rules) (m : Machine) (n : ℕ) (q : Request) (stamp : ℕ) → is_pack q ≡ false → is_packed (step_of rules m n q stamp).reply ≡ false
-step_unpacked rules m n q stamp not = by_step IsUnpacked rules m n q stamp (unpacked_cases m n q not)
 
 -- ---- and what they keep
 

@@ -96,43 +96,9 @@ fn mark_all<St: Store, F: Refs>(
     Ok(marker)
 }
 
-/// What stays of a list that is packed up to a tid, with just the objects of a set kept, is copied, and
-/// the copy is put in the place of the list. With an error the list is as it was, or, where it is a store
-/// fault, a crash leaves one of the two.
-fn replace_list<St: Store>(
-    alloc: Global,
-    store: &mut St,
-    tid: Tid,
-    keep: &OidSet,
-) -> Result<Packed, StoreError>
-    requires whole { (St.state store.old).broken ≡ false }
-    requires free { (St.state store.old).voted ≡ None }
-    ensures whole { UnlessFault result ((St.state store.new).broken ≡ false) }
-    ensures breaks { IsErrOf result StoreError.StoreFault → (St.state store.new).broken ≡ true }
-    ensures list { St.told → OnOk result
-        ((St.state store.new).list ≡ packed_by tid keep.now (St.state store.old).list) }
-    ensures counts { St.told → IfOk result (λ counts.
-        IsPackCount (St.state store.old).list (St.state store.new).list counts) }
-    ensures unchanged { St.told → OnErr result
-        (UnlessFault result ((St.state store.new).list ≡ (St.state store.old).list)) }
-    ensures begun { (St.state store.new).begun ≡ None }
-    ensures voted { (St.state store.new).voted ≡ None }
-    ensures main { St.lasts → OnErr result
-        (UnlessFault result (StaysAs Main (St.state store.old).log (St.state store.new).log)) }
-    ensures any_moment { St.lasts → St.told → LeavesOnly Main
-        (StandsForOneOfTwo St.stands (St.state store.old).list (packed_by tid keep.now (St.state store.old).list))
-        (St.state store.old).log (St.state store.new).log }
-    ensures cause { HasStoreCause (St.state store.old) (St.state store.new) result }
-{
-    match store.pack_begin(alloc, tid) {
-        Ok(()) => {}
-        Err(error) => return Err(error),
-    }
-    store.pack_switch(alloc, keep)
-}
-
-/// What is left of a copy is copied, and the copy is put in the place of the list; or all of it is copied
-/// first, where none is begun (`fresh`).
+/// What stays of a list that is packed up to a tid, with just the objects of a set kept, is copied: what is
+/// left of a copy that is begun, or all, where none is (`fresh`). The copy is put in the place of the list.
+/// With an error the list is as it was, or, where it is a store fault, a crash leaves one of the two.
 fn replace<St: Store>(
     alloc: Global,
     store: &mut St,
@@ -162,8 +128,12 @@ fn replace<St: Store>(
         (St.state store.old).log (St.state store.new).log }
     ensures cause { HasStoreCause (St.state store.old) (St.state store.new) result }
 {
-    if fresh {
-        return replace_list(alloc, store, tid, keep);
+    if !fresh {
+        return store.pack_switch(alloc, keep);
+    }
+    match store.pack_begin(alloc, tid) {
+        Ok(()) => {}
+        Err(error) => return Err(error),
     }
     store.pack_switch(alloc, keep)
 }

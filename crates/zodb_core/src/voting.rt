@@ -153,10 +153,8 @@ impl<St: Store, R: Resolver, F: Refs> Hub<St, R, F> {
         if count > JOURNAL_LIMIT {
             return Reply::Refused(Refusal::JournalFull { count });
         }
-        let Ok(oids) = changed_oids(alloc, changes.as_slice()) else {
-            return Reply::Refused(Refusal::Memory);
-        };
-        let Ok(()) = self.journal.reserve() else {
+        let room = self.journal.reserve();
+        let (Ok(oids), Ok(())) = (changed_oids(alloc, changes.as_slice()), room) else {
             return Reply::Refused(Refusal::Memory);
         };
         let Some(tid) = tick(self.store.newest(), clock) else {

@@ -1,8 +1,7 @@
-use Rattle.std.proofs.Common.{◌≡◌, length}
-use Rattle.std.specs.Prelude.{All}
+use Rattle.std.proofs.Common.{◌≡◌}
 use Rattle.std.specs.Vec.Iter.{into_iter_items, into_iter_len}
-use Rattle.zb_model.specs.Database.{IsRecord}
 use Rattle.commit_phases.specs.Pending.{stores_after}
+use Rattle.commit_phases.specs.TakingLaws.{AreLeft}
 use Rattle.savepoints.specs.Log.{all_whole, Notes}
 use Rattle.savepoints.proofs.noting.put_each.Given as goal
 
@@ -11,8 +10,7 @@ abbrev pub invariant-loop-store : goal.invariant-loop-store
 invariant-loop-store l =
     let left = into_iter_items l.store-iterator in
     record {
-      ends : into_iter_len l.store-iterator ≡ length left;
-      left_filled : All (λ p. IsRecord p.content) left;
+      are_left : AreLeft (into_iter_len l.store-iterator) left;
       notes : Notes l.fn.pending.stores l.pending.stores l.fn.log.items l.log.items;
       contents : Notes l.fn.pending.stores l.pending.stores (all_whole l.fn.contents.items) (all_whole l.contents.items);
       checks : l.pending.checks ≡ l.fn.pending.checks;

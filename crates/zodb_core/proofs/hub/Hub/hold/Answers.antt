@@ -23,11 +23,6 @@ returns-then-count-gt-JOURNAL_LIMIT-clause-any_moment g c = λ lasts told.
 pub returns-in_default-clause-any_moment : goal.returns-in_default-clause-any_moment
 returns-in_default-clause-any_moment g c = λ lasts told.
     let s = g.St.Store.state c.self.inside.store in
-    leaves_now g.St.Store.stands c.args.self.now.store s c.args.self.now.store.log (search rules) (g.met.St.Store.lasting c.self.inside.store lasts (search rules)) refl
-
-pub returns-in_default-reserve-clause-any_moment : goal.returns-in_default-reserve-clause-any_moment
-returns-in_default-reserve-clause-any_moment g c = λ lasts told.
-    let s = g.St.Store.state c.self.inside.store in
     leaves_now g.St.Store.stands c.args.self.now.store s s.log (search rules) (g.met.St.Store.lasting c.self.inside.store lasts (search rules)) (search rules)
 
 pub returns-in_default-tick-clause-any_moment : goal.returns-in_default-tick-clause-any_moment
@@ -75,17 +70,6 @@ returns-then-count-gt-JOURNAL_LIMIT-clause-step g c = record {
 
 pub returns-in_default-clause-step : goal.returns-in_default-clause-step
 returns-in_default-clause-step g c = record {
-  stamp = 0;
-  ticks = false;
-  clock = search rules;
-  step = λ told m stands q votes.
-      let rules_now = rules_of g.R.Resolver.rules g.F.Refs.named c.args.self.now in
-      still rules_now m c.args.session q (reply.Refused refusal.Memory) c.args.self.now _ (λ stamps.
-      hold_starved rules_now m c.args.session q c.args.texts c.args.changes c.args.self.now _ stamps stamps votes (search rules) (search (stands, rules)) refl);
-}
-
-pub returns-in_default-reserve-clause-step : goal.returns-in_default-reserve-clause-step
-returns-in_default-reserve-clause-step g c = record {
   stamp = 0;
   ticks = false;
   clock = search rules;
@@ -151,9 +135,9 @@ returns-in-Err-clause-safe g c =
 
 pub invariant_of-self-2 : goal.invariant_of-self-2
 invariant_of-self-2 g c =
-    rw c.reserve.ensures.sessions
-    (kept_voted g.St.Store.told (g.St.Store.state c.self.inside.store) (g.St.Store.state c.vote.new.self) c.self.inside.journal.entries c.reserve.new.self.entries c.self.inside.journal.capacity c.reserve.new.self.capacity
-    c.self.inside.changes c.self.inside.switches c.self.inside.journal.sessions c.self.inside.vote c.self.inside.pack c.self.inside.failed (g.F.Refs.named c.self.inside.refs) c.args.session (record { tid = c.in-Some.tid; oids = c.in-Ok.oids })
+    rw c.reserve-room.ensures.sessions
+    (kept_voted g.St.Store.told (g.St.Store.state c.self.inside.store) (g.St.Store.state c.vote.new.self) c.self.inside.journal.entries c.reserve-room.new.self.entries c.self.inside.journal.capacity c.reserve-room.new.self.capacity
+    c.self.inside.changes c.self.inside.switches c.self.inside.journal.sessions c.self.inside.vote c.self.inside.pack c.self.inside.failed (g.F.Refs.named c.self.inside.refs) c.args.session (record { tid = c.in-Some.tid; oids = c.in-Ok-Ok.oids })
     (record { tid = c.in-Some.tid; user = c.args.texts.user; description = c.args.texts.description; extension = c.args.texts.extension; changes = c.args.changes })
     c.self.invariant (search rules) (search rules) (search rules) (search rules) (search rules) (search rules) refl (search rules) (λ tells. search (tells, rules))
     (search rules) (λ tells. search (tells, rules)) (search rules) (search rules) (search rules))

@@ -14,53 +14,17 @@ returns-in-Some-clause-any_moment g c = λ lasts told m stands.
 pub returns-in_default-copying-clause-step : goal.returns-in_default-copying-clause-step
 returns-in_default-copying-clause-step g c = λ told m stands stamps.
     turn_taken (rules_of g.R.Resolver.rules g.F.Refs.named c.args.self.now) _ m c.args.session c.in-Some-take.pack c.mark_on.result c.args.self.now _ c.mark_on.new.self stamps stands (c.mark_on.ensures.step told m)
-    (record {
-      whole = search rules;
-      is_open = search rules;
-      free = search rules;
-      is = search rules;
-      store = search rules;
-      journal = search rules;
-      greatest = search rules;
-      sessions = search rules;
-      vote = search rules;
-      none = search rules;
-    })
-    (search rules)
+    (search rules) (search rules)
 
 pub returns-then-copying-clause-step : goal.returns-then-copying-clause-step
 returns-then-copying-clause-step g c = λ told m stands stamps.
     turn_taken (rules_of g.R.Resolver.rules g.F.Refs.named c.args.self.now) _ m c.args.session c.in-Some-take.pack c.switch_on.result c.args.self.now _ c.switch_on.new.self stamps stands (c.switch_on.ensures.step told m)
-    (record {
-      whole = search rules;
-      is_open = search rules;
-      free = search rules;
-      is = search rules;
-      store = search rules;
-      journal = search rules;
-      greatest = search rules;
-      sessions = search rules;
-      vote = search rules;
-      none = search rules;
-    })
-    (search rules)
+    (search rules) (search rules)
 
 pub returns-clause-step : goal.returns-clause-step
 returns-clause-step g c = λ told m stands stamps.
     turn_taken (rules_of g.R.Resolver.rules g.F.Refs.named c.args.self.now) _ m c.args.session c.in-Some-take.pack c.copy_on.result c.args.self.now _ c.copy_on.new.self stamps stands (c.copy_on.ensures.step told m)
-    (record {
-      whole = search rules;
-      is_open = search rules;
-      free = search rules;
-      is = search rules;
-      store = search rules;
-      journal = search rules;
-      greatest = search rules;
-      sessions = search rules;
-      vote = search rules;
-      none = search rules;
-    })
-    (search rules)
+    (search rules) (search rules)
 
 pub returns-clause-any_moment : goal.returns-clause-any_moment
 returns-clause-any_moment g c = λ lasts told m stands.
