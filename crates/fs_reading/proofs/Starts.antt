@@ -1,8 +1,9 @@
 -- Transactions of a list by the serials of their places.
-use Rattle.std.proofs.Common.{◌≡◌, ℕ, suc, ◌+◌, ◌-◌, ◌^◌, ◌<◌, ◌≤◌, Bool, cond, not, eqb, ltb, leb, List, [], ◌∷◌, map, All, Option, Some, None, refl, sym, ap, ◌∙◌, arith}
+use Rattle.std.proofs.Common.{◌≡◌, ℕ, suc, ◌+◌, ◌-◌, ◌^◌, ◌<◌, ◌≤◌, Bool, true, false, cond, not, eqb, ltb, leb, List, [], ◌∷◌, map, All, Option, Some, None, refl, sym, ap, ◌∙◌, arith}
 use Rattle.std.specs.Prelude.{slice_get, option_map}
 use Rattle.std.specs.List.{find, position_or_len}
 use Rattle.std.specs.List.Sorted.{IsNonDecreasingBy}
+use Rattle.std.proofs.lemmas.Bool.Decides.{nat_tests}
 use Rattle.std.proofs.lemmas.Bool.{leb-true, leb-false, eq-eqb, ne_eqb, lt-leb}
 use Rattle.std.proofs.lemmas.List.Folds.{find_at}
 use Rattle.std.proofs.lemmas.List.Elements.{All-head, All-tail, All-weaker}
@@ -174,3 +175,10 @@ tid_above bytes s tid starts r begins are found =
 
 pub no_tid_above : (bytes : List ℕ) (s : Reached) (tid : ℕ) → Begins bytes s → 2 ^ 64 ≤ tid + 1 → None ≡ first_tid_after tid s.list
 no_tid_above bytes s tid begins high = ap (option_map (λ (t : Transaction). t.tid)) (none_above_all bytes s tid begins high)
+
+-- by a test that two numbers differ, they are the same or not
+pub same_by : (r : Bool) (m n : ℕ) → r ≡ not (eqb m n) → r ≡ false → m ≡ n
+same_by r m n is e = grind (arith, nat_tests)
+
+pub other_by : (r : Bool) (m n : ℕ) → r ≡ not (eqb m n) → r ≡ true → m ≡ n → ⊥
+other_by r m n is e f = grind (arith, nat_tests)

@@ -14,7 +14,7 @@ use Rattle.fs_records.specs.NumberLaws.{length-number}
 use Rattle.fs_records.specs.Blocks.{Payload, Full, From, Written, Known, payload_text, payload_length, record_text, records_text, with_record, content_of, changes_of, as_change, IsPayload, AreWritten}
 use Rattle.fs_records.specs.Rules.{texts_length, payload_size}
 use Rattle.fs_records.specs.RecordLaws.{length-record_text}
-use Rattle.fs_reading.specs.Standing.{head_at, data_head_at, RecordStands}
+use Rattle.fs_reading.specs.Standing.{head_at, data_head_at, RecordStands, TransactionStands}
 use Rattle.fs_reading.specs.Merged.{read_of}
 use Rattle.fs_reading.specs.Contents.{record_head}
 use Rattle.fs_reading.specs.RecordsStand.{NewStands}
@@ -42,6 +42,14 @@ pub record ChangesStand (bytes : List ℕ) (at : ℕ) (changes : List Change) : 
   pub between : RecordsBetween bytes (records_begin bytes at) (records_end bytes at) records
   pub are : changes ≡ map as_change (entries_of [] records)
   pub within : records_end bytes at ≤ length bytes
+
+-- some transaction stands at a place, with its changes
+abbrev pub HasTransaction : List ℕ → Place → Type 0
+HasTransaction bytes p = (t : Transaction) × TransactionStands bytes p t × ChangesStand bytes p.at t.changes
+
+-- this is said of each transaction that stands at a place
+abbrev pub OfTransaction : List ℕ → Place → (Transaction → Type 0) → Type 0
+OfTransaction bytes p says = (t : Transaction) → TransactionStands bytes p t → ChangesStand bytes p.at t.changes → says t
 
 -- each transaction of the list has the changes by the data records at its place
 abbrev pub AllChangesStand : List ℕ → List Place → List Transaction → Type 0

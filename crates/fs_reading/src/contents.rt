@@ -1,13 +1,12 @@
 //! The content of a data record.
 
 ghost use Rattle.std.specs.Prelude.{◌≡◌, ℕ, ◌≤◌, ◌<◌, ◌^◌, true, length, IfOk};
-ghost use Rattle.zb_model.specs.declared.data.Content.{Content};
 ghost use Rattle.fs_records.specs.Blocks.{Reached, Begins, is_known, content_at};
 ghost use Rattle.zb_volume.specs.Disk.{main_bytes};
-ghost use Rattle.fs_reading.specs.Standing.{data_head_at, IsContent};
+ghost use Rattle.fs_reading.specs.Standing.{data_head_at};
 ghost use Rattle.fs_reading.specs.Formed.{HasBytes};
 ghost use Rattle.fs_reading.specs.Known.{AreSourcesOf};
-ghost use Rattle.fs_reading.specs.Sources.{IsSource, IsKnownPlace};
+ghost use Rattle.fs_reading.specs.Sources.{HasContent, IsKnownPlace, IsSource, OfContent};
 ghost use Rattle.fs_reading.specs.Outlines.{HasLength, StandsWithin, outlined_content};
 ghost use Rattle.zb_volume.specs.States.{OnlyReads};
 ghost use Rattle.fs_reading.specs.Reads.{OnlyReadsMain};
@@ -33,12 +32,10 @@ fn follow<V: Volume>(
 ) -> Result<Option<Source>, StoreFault>
     requires short { V.told → length (main_bytes (V.state volume.old).log) < 2 ^ 64 }
     requires header { V.told → header.now ≡ data_head_at (main_bytes (V.state volume.old).log) at }
-    requires some { V.told → (content : Content)
-        × IsContent (main_bytes (V.state volume.old).log) content at }
+    requires some { V.told → HasContent (main_bytes (V.state volume.old).log) at }
     requires known { V.told → AreSourcesOf (main_bytes (V.state volume.old).log) known.now }
-    ensures value { V.told → (content : Content)
-        → IsContent (main_bytes (V.state volume.old).log) content at
-        → IfOk result (λ source. IsSource (main_bytes (V.state volume.old).log) content source) }
+    ensures value { V.told → OfContent (main_bytes (V.state volume.old).log) at (λ content.
+        IfOk result (IsSource (main_bytes (V.state volume.old).log) content)) }
     ensures filled { IfOk result (λ source. HasLength source) }
     ensures read { OnlyReads (V.state volume.old) (V.state volume.new) result }
 {
@@ -72,12 +69,10 @@ pub(crate) fn source_of<V: Volume>(
 ) -> Result<Option<Source>, StoreFault>
     requires short { V.told → length (main_bytes (V.state volume.old).log) < 2 ^ 64 }
     requires header { V.told → header.now ≡ data_head_at (main_bytes (V.state volume.old).log) at }
-    requires some { V.told → (content : Content)
-        × IsContent (main_bytes (V.state volume.old).log) content at }
+    requires some { V.told → HasContent (main_bytes (V.state volume.old).log) at }
     requires known { V.told → AreSourcesOf (main_bytes (V.state volume.old).log) known.old }
-    ensures value { V.told → (content : Content)
-        → IsContent (main_bytes (V.state volume.old).log) content at
-        → IfOk result (λ source. IsSource (main_bytes (V.state volume.old).log) content source) }
+    ensures value { V.told → OfContent (main_bytes (V.state volume.old).log) at (λ content.
+        IfOk result (IsSource (main_bytes (V.state volume.old).log) content)) }
     ensures filled { IfOk result (λ source. HasLength source) }
     ensures known { V.told → AreSourcesOf (main_bytes (V.state volume.new).log) known.new }
     ensures read { OnlyReads (V.state volume.old) (V.state volume.new) result }
@@ -119,12 +114,10 @@ pub(crate) fn content_of<V: Volume>(
 ) -> Result<Content, ReadError>
     requires short { V.told → length (main_bytes (V.state volume.old).log) < 2 ^ 64 }
     requires header { V.told → header.now ≡ data_head_at (main_bytes (V.state volume.old).log) at }
-    requires some { V.told → (content : Content)
-        × IsContent (main_bytes (V.state volume.old).log) content at }
+    requires some { V.told → HasContent (main_bytes (V.state volume.old).log) at }
     requires known { V.told → AreSourcesOf (main_bytes (V.state volume.old).log) known.old }
-    ensures value { V.told → (content : Content)
-        → IsContent (main_bytes (V.state volume.old).log) content at
-        → IfOk result (λ read. read ≡ content) }
+    ensures value { V.told → OfContent (main_bytes (V.state volume.old).log) at (λ content.
+        IfOk result (λ read. read ≡ content)) }
     ensures filled { IfOk result (λ read. HasBytes read) }
     ensures known { V.told → AreSourcesOf (main_bytes (V.state volume.new).log) known.new }
     ensures read { OnlyReadsMain (V.state volume.old) (V.state volume.new) result }

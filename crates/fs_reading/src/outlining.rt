@@ -6,8 +6,7 @@ ghost use Rattle.fs_records.specs.Blocks.{Reached, Begins, Known};
 ghost use Rattle.fs_records.specs.Rules.{payload_size};
 ghost use Rattle.fs_reading.specs.Known.{AreSourcesOf};
 ghost use Rattle.fs_reading.specs.Main.{IsStart, IsStartOf};
-ghost use Rattle.fs_reading.specs.ChangesStand.{ChangesStand, RecordsBetween, entries_of};
-ghost use Rattle.fs_reading.specs.Standing.{TransactionStands};
+ghost use Rattle.fs_reading.specs.ChangesStand.{HasTransaction, OfTransaction, RecordsBetween, entries_of};
 ghost use Rattle.fs_reading.specs.Outlines.{AllStandWithin, IsOutline, outlined_transaction};
 ghost use Rattle.fs_reading.specs.SourceEntries.{AreSources, EntriesWithin, entries_from, outlined_entry};
 ghost use Rattle.zb_volume.specs.Disk.{main_bytes};
@@ -91,15 +90,11 @@ pub(crate) fn outline_at<V: Volume>(
     place: Place,
 ) -> Result<Outline, ReadError>
     requires short { V.told → length (main_bytes (V.state volume.old).log) < 2 ^ 64 }
-    requires stands { V.told → (t : Transaction)
-        × TransactionStands (main_bytes (V.state volume.old).log) place t
-        × ChangesStand (main_bytes (V.state volume.old).log) place.at t.changes }
+    requires stands { V.told → HasTransaction (main_bytes (V.state volume.old).log) place }
     requires known { V.told → AreSourcesOf (main_bytes (V.state volume.old).log) known.old }
-    ensures value { V.told → (t : Transaction)
-        → TransactionStands (main_bytes (V.state volume.old).log) place t
-        → ChangesStand (main_bytes (V.state volume.old).log) place.at t.changes
-        → IfOk result (λ outline.
-        outlined_transaction (main_bytes (V.state volume.old).log) outline ≡ t) }
+    ensures value { V.told → OfTransaction (main_bytes (V.state volume.old).log) place
+        (λ t. IfOk result (λ outline.
+        outlined_transaction (main_bytes (V.state volume.old).log) outline ≡ t)) }
     ensures within { V.told → IfOk result (λ outline.
         AllStandWithin (main_bytes (V.state volume.old).log) outline.changes) }
     ensures formed { IfOk result (λ outline. IsOutline outline) }

@@ -8,6 +8,7 @@ ghost use Rattle.fs_records.specs.Blocks.{Known};
 ghost use Rattle.fs_records.specs.Indexed.{place_of};
 ghost use Rattle.fs_reading.specs.Sizes.{noted_of, IsNotedAt};
 ghost use Rattle.fs_reading.specs.Standing.{data_head_at, IsContent, RecordStands};
+ghost use Rattle.fs_reading.specs.Sources.{HasContent};
 ghost use Rattle.zb_volume.specs.Disk.{main_bytes};
 ghost use Rattle.zb_volume.specs.States.{OnlyReads};
 ghost use Rattle.fs_reading.specs.Reads.{OnlyReadsMain};
@@ -54,8 +55,7 @@ fn size_at<V: Volume>(
 ) -> Result<Option<u64>, StoreFault>
     requires short { V.told → length (main_bytes (V.state volume.old).log) < 2 ^ 64 }
     requires header { V.told → header.now ≡ data_head_at (main_bytes (V.state volume.old).log) at }
-    requires some { V.told → (content : Content)
-        × IsContent (main_bytes (V.state volume.old).log) content at }
+    requires some { V.told → HasContent (main_bytes (V.state volume.old).log) at }
     ensures value { V.told → (content : Content) (ks : List Known)
         → IsContent (main_bytes (V.state volume.old).log) content at → places.now ≡ map place_of ks
         → noted.now ≡ map (noted_of (main_bytes (V.state volume.old).log)) ks

@@ -5,10 +5,9 @@ ghost use Rattle.zb_model.specs.declared.data.Transaction.{Transaction};
 ghost use Rattle.fs_records.specs.Blocks.{Reached, Begins};
 ghost use Rattle.fs_reading.specs.Known.{AreSourcesOf};
 ghost use Rattle.fs_reading.specs.Main.{IsStart, IsStartOf};
-ghost use Rattle.fs_reading.specs.ChangesStand.{ChangesStand};
+ghost use Rattle.fs_reading.specs.ChangesStand.{HasTransaction, OfTransaction};
 ghost use Rattle.fs_reading.specs.Formed.{AreFormed, IsFormed};
 ghost use Rattle.fs_reading.specs.Outlines.{AllStandWithin, AreOutlined, StandsWithin, outlined_change};
-ghost use Rattle.fs_reading.specs.Standing.{TransactionStands};
 ghost use Rattle.zb_volume.specs.Disk.{main_bytes};
 ghost use Rattle.fs_reading.specs.Reads.{OnlyReadsMain};
 
@@ -77,14 +76,10 @@ fn transaction_at<V: Volume>(
     place: Place,
 ) -> Result<Transaction, ReadError>
     requires short { V.told → length (main_bytes (V.state volume.old).log) < 2 ^ 64 }
-    requires stands { V.told → (t : Transaction)
-        × TransactionStands (main_bytes (V.state volume.old).log) place t
-        × ChangesStand (main_bytes (V.state volume.old).log) place.at t.changes }
+    requires stands { V.told → HasTransaction (main_bytes (V.state volume.old).log) place }
     requires known { V.told → AreSourcesOf (main_bytes (V.state volume.old).log) known.old }
-    ensures value { V.told → (t : Transaction)
-        → TransactionStands (main_bytes (V.state volume.old).log) place t
-        → ChangesStand (main_bytes (V.state volume.old).log) place.at t.changes
-        → IfOk result (λ read. read ≡ t) }
+    ensures value { V.told → OfTransaction (main_bytes (V.state volume.old).log) place
+        (λ t. IfOk result (λ read. read ≡ t)) }
     ensures formed { IfOk result (λ read. IsFormed read) }
     ensures known { V.told → AreSourcesOf (main_bytes (V.state volume.new).log) known.new }
     ensures read { OnlyReadsMain (V.state volume.old) (V.state volume.new) result }

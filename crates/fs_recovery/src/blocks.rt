@@ -64,7 +64,6 @@ pub fn judge<V: Volume, const N: usize>(
 ) -> Result<Head, StoreFault>
     requires small { 42 ≤ N }
     requires order { p ≤ window.old.length }
-    requires length { V.told → window.old.length ≡ length (main_bytes (V.state volume.old).log) }
     requires shows { V.told → Shows window.old (main_bytes (V.state volume.old).log) }
     ensures value { V.told → IfOk result (λ x.
         Judges x newest (drop p (main_bytes (V.state volume.old).log))) }

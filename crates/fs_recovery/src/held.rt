@@ -1,6 +1,6 @@
 //! What is held of Main.
 
-ghost use Rattle.std.specs.Prelude.{◌≡◌, ◌+◌, ◌-◌, ◌<◌, ◌≤◌, ◌^◌, length, min, take, drop, true, OnOk};
+ghost use Rattle.std.specs.Prelude.{◌≡◌, ◌+◌, ◌-◌, ◌<◌, ◌≤◌, ◌^◌, ℕ, List, length, min, take, drop, true, OnOk};
 ghost use Rattle.fs_recovery.specs.Reading.{Holds, Covers};
 ghost use Rattle.zb_volume.specs.Disk.{main_bytes};
 ghost use Rattle.zb_volume.specs.States.{OnlyReads};
@@ -85,7 +85,7 @@ impl<const N: usize> Piece<N> {
 
     /// The n bytes at a place, which are held.
     #[inline(always)]
-    pub fn piece(&self, at: u64, n: usize) -> &[u8]
+    fn piece(&self, at: u64, n: usize) -> &[u8]
         requires { Covers self.now.at self.now.count at n }
         ensures bytes { result.now ≡ take n (drop (at - self.now.at) self.now.held) }
         ensures long { length result.now ≡ n }
@@ -93,5 +93,16 @@ impl<const N: usize> Piece<N> {
         let from = (at - self.at) as usize;
         let all = &self.held[..];
         &all[from..from + n]
+    }
+
+    /// Fills `out` with the bytes at a place, which are held.
+    #[inline(always)]
+    #[tactic(auto, using(crate::specs::Seen::shown))]
+    pub fn give(&self, at: u64, out: &mut [u8])
+        requires { Covers self.now.at self.now.count at (length out.old) }
+        ensures { (text : List ℕ) → Holds self.now.at self.now.count self.now.held text
+            → out.new ≡ take (length out.old) (drop at text) }
+    {
+        out.copy_from_slice(self.piece(at, out.len()));
     }
 }

@@ -60,7 +60,6 @@ fn keep_block<V: Volume, const N: usize>(
     requires texts { 23 + texts_length header.now ≤ header.now.length }
     requires above { newest_kept index.old < header.now.tid }
     requires before { KeptBefore index.old p }
-    requires length { V.told → window.old.length ≡ length (main_bytes (V.state volume.old).log) }
     requires shows { V.told → Shows window.old (main_bytes (V.state volume.old).log) }
     requires bytes { V.told → AreBytes (main_bytes (V.state volume.old).log) }
     ensures before { OnOk result (KeptBefore index.new (p + header.now.length + 8)) }
@@ -129,7 +128,6 @@ fn read_blocks<V: Volume, const N: usize>(
     requires small { 42 ≤ N }
     requires bounded { IsBounded known }
     requires within { known.end ≤ window.old.length }
-    requires length { V.told → window.old.length ≡ length (main_bytes (V.state volume.old).log) }
     requires shows { V.told → Shows window.old (main_bytes (V.state volume.old).log) }
     requires bytes { V.told → AreBytes (main_bytes (V.state volume.old).log) }
     ensures opens { V.told → IsUpTo (main_bytes (V.state volume.old).log) known
@@ -188,7 +186,6 @@ fn has_magic<V: Volume, const N: usize>(
 ) -> Result<bool, StoreFault>
     requires small { 42 ≤ N }
     requires long { 4 ≤ window.old.length }
-    requires length { V.told → window.old.length ≡ length (main_bytes (V.state volume.old).log) }
     requires shows { V.told → Shows window.old (main_bytes (V.state volume.old).log) }
     ensures value { V.told →
         IfOk result (λ b. b ≡ bytes_eq (take 4 (main_bytes (V.state volume.old).log)) magic) }

@@ -23,7 +23,6 @@ pub fn header_at<V: Volume, const N: usize>(
 ) -> Result<Header, StoreFault>
     requires small { 42 ≤ N }
     requires within { at + 23 ≤ window.old.length }
-    requires length { V.told → window.old.length ≡ length (main_bytes (V.state volume.old).log) }
     requires shows { V.told → Shows window.old (main_bytes (V.state volume.old).log) }
     ensures value { V.told → IfOk result (λ h. h
         ≡ header_of (drop at (main_bytes (V.state volume.old).log))) }
@@ -45,7 +44,6 @@ pub fn data_header_at<V: Volume, const N: usize>(
 ) -> Result<DataHeader, StoreFault>
     requires small { 42 ≤ N }
     requires within { at + 42 ≤ window.old.length }
-    requires length { V.told → window.old.length ≡ length (main_bytes (V.state volume.old).log) }
     requires shows { V.told → Shows window.old (main_bytes (V.state volume.old).log) }
     ensures value { V.told →
         IfOk result (λ h. h ≡ data_header_of (drop at (main_bytes (V.state volume.old).log))) }
@@ -68,7 +66,6 @@ pub fn number_behind<V: Volume, const N: usize>(
     n: u64,
 ) -> Result<u64, StoreFault>
     requires within { at + n + 8 ≤ window.old.length }
-    requires length { V.told → window.old.length ≡ length (main_bytes (V.state volume.old).log) }
     requires shows { V.told → Shows window.old (main_bytes (V.state volume.old).log) }
     ensures value { V.told
         → IfOk result (λ x. x

@@ -38,7 +38,6 @@ fn is_astray<V: Volume, const N: usize>(
     index: &Index,
 ) -> Result<bool, StoreFault>
     requires within { q + 42 + payload_size header.now ≤ window.old.length }
-    requires length { V.told → window.old.length ≡ length (main_bytes (V.state volume.old).log) }
     requires shows { V.told → Shows window.old (main_bytes (V.state volume.old).log) }
     ensures value { V.told →
         IfOk result (λ b. b ≡ is_astray (knows index.now.entries) header.now
@@ -79,7 +78,6 @@ fn read_record<V: Volume, const N: usize>(
     requires small { 42 ≤ N }
     requires order { q ≤ end }
     requires within { end ≤ window.old.length }
-    requires length { V.told → window.old.length ≡ length (main_bytes (V.state volume.old).log) }
     requires shows { V.told → Shows window.old (main_bytes (V.state volume.old).log) }
     ensures size { IfOk result (λ r. (0 < r.1) × (r.1 ≤ end - q)) }
     ensures value { V.told →
@@ -127,7 +125,6 @@ pub fn read_records<V: Volume, const N: usize>(
     requires small { 42 ≤ N }
     requires order { from ≤ end }
     requires within { end ≤ window.old.length }
-    requires length { V.told → window.old.length ≡ length (main_bytes (V.state volume.old).log) }
     requires shows { V.told → Shows window.old (main_bytes (V.state volume.old).log) }
     requires bytes { V.told → AreBytes (main_bytes (V.state volume.old).log) }
     requires before { AreBefore index.old.entries tid from }

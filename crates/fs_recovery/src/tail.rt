@@ -9,26 +9,6 @@ ghost use Rattle.zb_volume.specs.States.{OnlyWrites, OthersStay};
 
 use zb_volume::{Area, StoreFault, Volume};
 
-/// Cuts Main to its first `end` bytes, and syncs it.
-fn cut_and_sync<V: Volume>(volume: &mut V, end: u64) -> Result<(), StoreFault>
-    requires { V.told → end ≤ length (main_bytes (V.state volume.old).log) }
-    ensures content { V.told →
-        OnOk result (main_bytes (V.state volume.new).log
-        ≡ take end (main_bytes (V.state volume.old).log)) }
-    ensures settled { V.told → OnOk result (IsSettled (V.state volume.new).log Area.Main) }
-    ensures any_moment { V.told → LeavesOnly Area.Main
-        (CrashLeavesWith (V.state volume.old).log Area.Main
-        (take end (main_bytes (V.state volume.old).log)))
-        (V.state volume.old).log (V.state volume.new).log }
-    ensures others { V.told → OthersStay Area.Main (V.state volume.old).log
-        (V.state volume.new).log }
-    ensures write { OnlyWrites (V.state volume.old) (V.state volume.new) result }
-{
-    volume.cut(Area::Main, end)?;
-    volume.sync(Area::Main)?;
-    Ok(())
-}
-
 /// Syncs Main.
 fn sync_main<V: Volume>(volume: &mut V) -> Result<(), StoreFault>
     ensures content { V.told → OnOk result (main_bytes (V.state volume.new).log
@@ -63,7 +43,9 @@ pub fn keep_front<V: Volume>(volume: &mut V, long: u64, end: u64) -> Result<(), 
     ensures write { OnlyWrites (V.state volume.old) (V.state volume.new) result }
 {
     if end < long {
-        return cut_and_sync(volume, end);
+        volume.cut(Area::Main, end)?;
+        volume.sync(Area::Main)?;
+        return Ok(());
     }
     sync_main(volume)
 }

@@ -1,6 +1,6 @@
 //! Main is read forward through a window.
 
-ghost use Rattle.std.specs.Prelude.{◌≡◌, ◌+◌, ◌<◌, ◌≤◌, ◌^◌, length, take, drop, OnOk};
+ghost use Rattle.std.specs.Prelude.{◌≡◌, ◌+◌, ◌<◌, ◌≤◌, ◌^◌, length, take, drop, false, OnOk};
 ghost use Rattle.fs_recovery.specs.Reading.{Covers};
 ghost use Rattle.fs_recovery.specs.Windows.{Shows};
 ghost use Rattle.zb_volume.specs.Disk.{main_bytes};
@@ -46,7 +46,6 @@ impl<const N: usize> Window<N> {
         requires small { n ≤ 42 }
         requires room { 42 ≤ N }
         requires within { at + n ≤ self.old.length }
-        requires length { V.told → self.old.length ≡ length (main_bytes (V.state volume.old).log) }
         requires shows { V.told → Shows self.old (main_bytes (V.state volume.old).log) }
         ensures shows { V.told → Shows self.new (main_bytes (V.state volume.old).log) }
         ensures covers { OnOk result (Covers self.new.near.at self.new.near.count at n) }
@@ -61,18 +60,20 @@ impl<const N: usize> Window<N> {
         Ok(())
     }
 
-    /// Fills `out` with the bytes at a place, which may have to be read first.
+    /// Fills `out` with bytes that the near piece doesn't hold. Where they weren't read ahead either, they
+    /// are read now: into the near piece, which goes there, or where it is to stay, ahead of it, with a
+    /// few that stand behind them. Called from `read` and `peek`, which look first where most are found.
     #[inline(never)]
-    fn read_far<V: Volume>(
+    fn read_apart<V: Volume>(
         &mut self,
         volume: &mut V,
         at: u64,
         out: &mut [u8],
+        stays: bool,
     ) -> Result<(), StoreFault>
-        requires small { length out.old ≤ 42 }
-        requires room { 42 ≤ N }
+        requires small { length out.old ≤ 128 }
+        requires near { stays ≡ false → (length out.old ≤ 42) × (42 ≤ N) }
         requires within { at + length out.old ≤ self.old.length }
-        requires length { V.told → self.old.length ≡ length (main_bytes (V.state volume.old).log) }
         requires shows { V.told → Shows self.old (main_bytes (V.state volume.old).log) }
         ensures bytes { V.told →
             OnOk result (out.new ≡ take (length out.old)
@@ -83,11 +84,17 @@ impl<const N: usize> Window<N> {
     {
         let n = out.len();
         if self.ahead.covers(at, n) {
-            out.copy_from_slice(self.ahead.piece(at, n));
+            self.ahead.give(at, out);
+            return Ok(());
+        }
+        if stays {
+            let m = at_most(self.length - at, AHEAD);
+            self.ahead.fill(volume, at, m)?;
+            self.ahead.give(at, out);
             return Ok(());
         }
         self.fill(volume, at, n)?;
-        out.copy_from_slice(self.near.piece(at, n));
+        self.near.give(at, out);
         Ok(())
     }
 
@@ -102,7 +109,6 @@ impl<const N: usize> Window<N> {
         requires small { length out.old ≤ 42 }
         requires room { 42 ≤ N }
         requires within { at + length out.old ≤ self.old.length }
-        requires length { V.told → self.old.length ≡ length (main_bytes (V.state volume.old).log) }
         requires shows { V.told → Shows self.old (main_bytes (V.state volume.old).log) }
         ensures bytes { V.told →
             OnOk result (out.new ≡ take (length out.old)
@@ -113,42 +119,10 @@ impl<const N: usize> Window<N> {
     {
         let n = out.len();
         if self.near.covers(at, n) {
-            out.copy_from_slice(self.near.piece(at, n));
+            self.near.give(at, out.as_mut_slice());
             return Ok(());
         }
-        self.read_far(volume, at, out.as_mut_slice())
-    }
-
-    /// Fills `out` with the bytes at a place, and keeps what it holds, wherever that is: where it
-    /// doesn't hold them, they are read with a few that stand behind them. Called from `peek`, which
-    /// looks first where most are found.
-    #[inline(never)]
-    fn peek_apart<V: Volume>(
-        &mut self,
-        volume: &mut V,
-        at: u64,
-        out: &mut [u8],
-    ) -> Result<(), StoreFault>
-        requires small { length out.old ≤ 128 }
-        requires within { at + length out.old ≤ self.old.length }
-        requires length { V.told → self.old.length ≡ length (main_bytes (V.state volume.old).log) }
-        requires shows { V.told → Shows self.old (main_bytes (V.state volume.old).log) }
-        ensures bytes { V.told →
-            OnOk result (out.new ≡ take (length out.old)
-            (drop at (main_bytes (V.state volume.old).log))) }
-        ensures shows { V.told → Shows self.new (main_bytes (V.state volume.old).log) }
-        ensures length { self.new.length ≡ self.old.length }
-        ensures read { OnlyReads (V.state volume.old) (V.state volume.new) result }
-    {
-        let n = out.len();
-        if self.ahead.covers(at, n) {
-            out.copy_from_slice(self.ahead.piece(at, n));
-            return Ok(());
-        }
-        let m = at_most(self.length - at, AHEAD);
-        self.ahead.fill(volume, at, m)?;
-        out.copy_from_slice(self.ahead.piece(at, n));
-        Ok(())
+        self.read_apart(volume, at, out.as_mut_slice(), false)
     }
 
     /// Fills `out` with the bytes at a place, and keeps what it holds, wherever that is: where it
@@ -162,7 +136,6 @@ impl<const N: usize> Window<N> {
     ) -> Result<(), StoreFault>
         requires small { length out.old ≤ 128 }
         requires within { at + length out.old ≤ self.old.length }
-        requires length { V.told → self.old.length ≡ length (main_bytes (V.state volume.old).log) }
         requires shows { V.told → Shows self.old (main_bytes (V.state volume.old).log) }
         ensures bytes { V.told →
             OnOk result (out.new ≡ take (length out.old)
@@ -173,9 +146,9 @@ impl<const N: usize> Window<N> {
     {
         let n = out.len();
         if self.near.covers(at, n) {
-            out.copy_from_slice(self.near.piece(at, n));
+            self.near.give(at, out.as_mut_slice());
             return Ok(());
         }
-        self.peek_apart(volume, at, out.as_mut_slice())
+        self.read_apart(volume, at, out.as_mut_slice(), true)
     }
 }

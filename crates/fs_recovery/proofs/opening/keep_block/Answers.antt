@@ -13,15 +13,12 @@ read_records-requires g c = (
       (
         omega arith,
         (
-          c.requires.length,
+          c.requires.shows,
           (
-            c.requires.shows,
+            c.requires.bytes,
             (
-              c.requires.bytes,
-              (
-                records_behind c.args.index.now c.args.p c.args.header.now.tid _ c.requires.above c.requires.before,
-                all_earlier c.args.index.now c.args.p c.args.header.now.tid c.requires.above c.requires.before,
-              ),
+              records_behind c.args.index.now c.args.p c.args.header.now.tid _ c.requires.above c.requires.before,
+              all_earlier c.args.index.now c.args.p c.args.header.now.tid c.requires.above c.requires.before,
             ),
           ),
         ),

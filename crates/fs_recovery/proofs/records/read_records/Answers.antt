@@ -40,7 +40,7 @@ loop-q-preserved g c =
       write_faults = c.read_record.ensures.read.write_faults ∙ c.loop-q.invariant.write_faults;
       read = λ told known is.
           let read = subst (λ (b : List ℕ). record_at (knows c.loop-q.index.entries) c.args.place c.args.tid (c.args.end - c.loop-q.q) (drop c.loop-q.q b) ≡ Ok (c.in_ok-oid.oid, c.in_ok-oid.size)) same (c.in_ok-oid.ensures.value told) in
-          one_counted_more bytes known c.args.place c.args.tid c.args.from c.loop-q.q c.args.end c.in_ok-oid.oid c.in_ok-oid.size c.loop-q.index.entries c.add.new.self.entries c.loop-q.counted c.with_record-counted.result (AreBytes-drop c.loop-q.q bytes (c.requires.bytes told)) (omega (arith, c.requires.within, c.requires.length told)) c.loop-q.invariant.order (sym read) c.in_ok-add.ensures.ok c.with_record-counted.ensures.changes c.with_record-counted.ensures.greatest (c.loop-q.invariant.read told known is);
+          one_counted_more bytes known c.args.place c.args.tid c.args.from c.loop-q.q c.args.end c.in_ok-oid.oid c.in_ok-oid.size c.loop-q.index.entries c.add.new.self.entries c.loop-q.counted c.with_record-counted.result (AreBytes-drop c.loop-q.q bytes (c.requires.bytes told)) (omega (arith, c.requires.within, (c.requires.shows told).long)) c.loop-q.invariant.order (sym read) c.in_ok-add.ensures.ok c.with_record-counted.ensures.changes c.with_record-counted.ensures.greatest (c.loop-q.invariant.read told known is);
     }
 
 pub loop-q-init : goal.loop-q-init

@@ -2,7 +2,9 @@ use Rattle.std.proofs.Common.{◌≡◌, ℕ, None, refl, ap, length, arith}
 use Rattle.std.proofs.lemmas.Result.{err_from_is_err_and}
 use Rattle.zb_volume.specs.declared.areas.Area.TheVariants.{Main}
 use Rattle.zb_volume.specs.Disk.{seen}
+use Rattle.zb_volume.specs.Moments.{Along}
 use Rattle.file_store.specs.declared.staged.Staged.{Staged}
+use Rattle.file_store.specs.Hinting.{LeavesOfFront}
 use Rattle.file_store.specs.Kept.{IsVotedIn, HasRoomForTally}
 use Rattle.fs_index.specs.Places.{places_in}
 use Rattle.file_store.specs.Staging.{StagedKept}
@@ -12,6 +14,7 @@ use Rattle.file_store.proofs.Leaves.{abort_leaves, not_answered}
 use Rattle.file_store.proofs.Sides.{copied_stays, keeps_begun}
 use Rattle.file_store.proofs.Sources.{known_aborted}
 use Rattle.file_store.proofs.store.FileStoreStore.abort.Goals as goal
+use Rattle.file_store.proofs.store.FileStoreStore.abort.Goals.{After-abort}
 
 -- what is left once what is staged is dropped
 abbrev dropped : StagedKept → StagedKept → Type 0
@@ -46,24 +49,26 @@ returns-in_err-abort-clause-any_moment g c = λ told.
     abort_moments (g.V.Volume.state self.volume).log self.index self.numbers (self.settled told c.requires.whole) (self.kept told c.requires.whole) (g.V.Volume.state c.abort.new.volume).log s.0 c.end.result s.1
     (self.voted told c.requires.whole s.0 s.1) c.end.ensures.value (c.abort.ensures.any_moment told)
 
+-- what a crash leaves of Main keeps the front
+fronts : (g : _) (c : After-abort g) → g.V.Volume.told → Along LeavesOfFront (g.V.Volume.state c.args.self.now.volume).log (g.V.Volume.state c.abort.new.volume).log
+fronts g c told =
+    let self = c.args.self.now in
+    let log = (g.V.Volume.state self.volume).log in
+    let was = whole_before log self.broken self.index.end c.requires.whole (self.hint told) in
+    fronts_stay log (g.V.Volume.state c.abort.new.volume).log self.index.end c.end.result (self.settled told c.requires.whole) was c.end.ensures.value (c.abort.ensures.front told) (c.abort.ensures.hint told)
+
 -- a call of the volume failed
 pub invariant_of-self : goal.invariant_of-self
-invariant_of-self g c =
-    let self = c.args.self.now in
-    record {
-      room = self.room;
-      settled = λ told whole. absurd cc;
-      kept = λ told whole. absurd cc;
-      voted = λ told whole. absurd cc;
-      copied = λ told whole. absurd cc;
-      outlined = λ told whole x some. absurd cc;
-      known = λ told whole. absurd cc;
-      hint = λ told.
-          let log = (g.V.Volume.state self.volume).log in
-          let new = (g.V.Volume.state c.abort.new.volume).log in
-          let was = whole_before log self.broken self.index.end c.requires.whole (self.hint told) in
-          hinted_broken new self.index.end (at_last log new (fronts_stay log new self.index.end c.end.result (self.settled told c.requires.whole) was c.end.ensures.value (c.abort.ensures.front told) (c.abort.ensures.hint told)));
-    }
+invariant_of-self g c = record {
+  room = c.args.self.now.room;
+  settled = λ told whole. absurd cc;
+  kept = λ told whole. absurd cc;
+  voted = λ told whole. absurd cc;
+  copied = λ told whole. absurd cc;
+  outlined = λ told whole x some. absurd cc;
+  known = λ told whole. absurd cc;
+  hint = λ told. hinted_broken _ c.args.self.now.index.end (at_last _ _ (fronts g (goal.at.invariant_of-self g c).After-abort told));
+}
 
 pub invariant_of-self-2 : goal.invariant_of-self-2
 invariant_of-self-2 g c =
@@ -82,10 +87,8 @@ invariant_of-self-2 g c =
       known = λ told whole.
           known_aborted (seen (g.V.Volume.state self.volume).log Main) (seen (g.V.Volume.state c.abort.new.volume).log Main) c.end.result self.index.end c.take_back.new.self.end self.sources c.end.ensures.value (end_of self.index c.take_back.new.self t) (c.in_ok-abort.ensures.content told) (self.known told c.requires.whole);
       hint = λ told.
-          let log = (g.V.Volume.state self.volume).log in
-          let new = (g.V.Volume.state c.abort.new.volume).log in
-          let was = whole_before log self.broken self.index.end c.requires.whole (self.hint told) in
-          hinted_on log new self.index.end c.take_back.new.self.end was (omega (arith, end_of self.index c.take_back.new.self t)) (fronts_stay log new self.index.end c.end.result (self.settled told c.requires.whole) was c.end.ensures.value (c.abort.ensures.front told) (c.abort.ensures.hint told)) (c.abort.ensures.hint told);
+          let was = whole_before _ self.broken self.index.end c.requires.whole (self.hint told) in
+          hinted_on _ _ self.index.end c.take_back.new.self.end was (omega (arith, end_of self.index c.take_back.new.self t)) (fronts g (goal.at.invariant_of-self-2 g c).After-abort told) (c.abort.ensures.hint told);
     }
 
 pub returns-clause-leaves : goal.returns-clause-leaves
@@ -112,20 +115,10 @@ returns-in_err-abort-clause-leaves g c =
     (λ told. not_answered c.from_residual.result p.0 _ p.1)
 
 pub returns-in_err-abort-clause-hint : goal.returns-in_err-abort-clause-hint
-returns-in_err-abort-clause-hint g c = λ told.
-    let self = c.args.self.now in
-    let log = (g.V.Volume.state self.volume).log in
-    let new = (g.V.Volume.state c.abort.new.volume).log in
-    let was = whole_before log self.broken self.index.end c.requires.whole (self.hint told) in
-    stays_honest _ _ (fronts_stay log new self.index.end c.end.result (self.settled told c.requires.whole) was c.end.ensures.value (c.abort.ensures.front told) (c.abort.ensures.hint told))
+returns-in_err-abort-clause-hint g c = λ told. stays_honest _ _ (fronts g (goal.at.returns-in_err-abort-clause-hint g c).After-abort told)
 
 pub returns-clause-hint : goal.returns-clause-hint
-returns-clause-hint g c = λ told.
-    let self = c.args.self.now in
-    let log = (g.V.Volume.state self.volume).log in
-    let new = (g.V.Volume.state c.abort.new.volume).log in
-    let was = whole_before log self.broken self.index.end c.requires.whole (self.hint told) in
-    stays_honest _ _ (fronts_stay log new self.index.end c.end.result (self.settled told c.requires.whole) was c.end.ensures.value (c.abort.ensures.front told) (c.abort.ensures.hint told))
+returns-clause-hint g c = λ told. stays_honest _ _ (fronts g (goal.at.returns-clause-hint g c).After-abort told)
 
 pub returns-clause-text : goal.returns-clause-text
 returns-clause-text g c = λ told.

@@ -7,8 +7,8 @@ use Rattle.zb_volume.specs.States.{OthersStay}
 use Rattle.zb_volume.specs.Lasting.{cut_leaves, seen-cut}
 use Rattle.zb_volume.specs.Durable.{change_leaves, sync_leaves, one_stays, next_stays}
 use Rattle.zb_volume.specs.Disk.{main_bytes}
-use Rattle.fs_recovery.proofs.tail.cut_and_sync.Goals as goal
-use Rattle.fs_recovery.proofs.tail.cut_and_sync.Goals.{After-sync}
+use Rattle.fs_recovery.proofs.tail.keep_front.Goals as goal
+use Rattle.fs_recovery.proofs.tail.keep_front.Goals.{After-sync}
 
 pub returns-in_err-cut-clause-any_moment : goal.returns-in_err-cut-clause-any_moment
 returns-in_err-cut-clause-any_moment g c told =
@@ -41,8 +41,8 @@ returns-in_err-sync-clause-any_moment g c = second g (goal.at.returns-in_err-syn
 pub returns-in_err-sync-clause-others : goal.returns-in_err-sync-clause-others
 returns-in_err-sync-clause-others g c = second_others g (goal.at.returns-in_err-sync-clause-others g c).After-sync
 
-pub returns-clause-any_moment : goal.returns-clause-any_moment
-returns-clause-any_moment g c = second g (goal.at.returns-clause-any_moment g c).After-sync
+pub returns-then-end-long-clause-any_moment : goal.returns-then-end-long-clause-any_moment
+returns-then-end-long-clause-any_moment g c = second g (goal.at.returns-then-end-long-clause-any_moment g c).After-sync
 
-pub returns-clause-others : goal.returns-clause-others
-returns-clause-others g c = second_others g (goal.at.returns-clause-others g c).After-sync
+pub returns-then-end-long-clause-others : goal.returns-then-end-long-clause-others
+returns-then-end-long-clause-others g c = second_others g (goal.at.returns-then-end-long-clause-others g c).After-sync
