@@ -235,24 +235,30 @@ draw_reads told lasts stands rules_in named_in n r h g before after step =
 -- ---- one part behind another
 
 module _ {R F : Type 0} (told lasts : Type 0) (stands : List ℕ → List Transaction → Type 0) (h g k : HubState R F) where
+  abbrev Keeps : StepOutcome → HubState R F → HubState R F → Type 0
+  Keeps o old new = KeepsHub told lasts stands false (λ m bytes. stands bytes m.list) o old new
+
+  pub keeps_then : (o : StepOutcome) → Keeps Answered h g → (told → h.store.broken ≡ false → g.store.list ≡ h.store.list) → Keeps o g k → Keeps o h k
+  keeps_then o one list two = record {
+    resolver = two.resolver ∙ one.resolver;
+    refs = two.refs ∙ one.refs;
+    later = record { reads = omega (arith, one.later.reads, two.later.reads); others = omega (arith, one.later.others, two.later.others) };
+    cause = subst (λ (c : FaultCounts). IsCountedBy c (counts_of k.store) o) one.cause two.cause;
+    broken = λ whole. two.broken (one.broken whole);
+    side = λ on packs. stays_then Side h.store.log g.store.log k.store.log (one.side on packs) (two.side on packs);
+    moments = λ on tells whole m is leaves.
+        let whole_then : g.store.broken ≡ false = one.broken whole in
+        let same : g.store.list ≡ m.list = list tells whole ∙ sym (is.list whole) in
+        let first = one.moments on tells whole m is leaves in
+        joined (Leaves Main (λ bytes. stands bytes m.list)) h.store.log g.store.log k.store.log first
+        (subst (λ (l : List Transaction). LeavesOnly Main (λ bytes. stands bytes l) g.store.log k.store.log) same
+        (two.moments on tells whole_then (machine_of g) (stands_for g)
+        (subst (λ (l : List Transaction). Leaves Main (λ bytes. stands bytes l) g.store.log) (sym same) (along_now (Leaves Main (λ bytes. stands bytes m.list)) h.store.log g.store.log first))));
+  }
+
   pub reads_then : (o : StepOutcome) → ReadsHub told lasts stands Answered h g → ReadsHub told lasts stands o g k → ReadsHub told lasts stands o h k
   reads_then o one two = record {
-    keeps = record {
-      resolver = two.keeps.resolver ∙ one.keeps.resolver;
-      refs = two.keeps.refs ∙ one.keeps.refs;
-      later = record { reads = omega (arith, one.keeps.later.reads, two.keeps.later.reads); others = omega (arith, one.keeps.later.others, two.keeps.later.others) };
-      cause = subst (λ (c : FaultCounts). IsCountedBy c (counts_of k.store) o) one.keeps.cause two.keeps.cause;
-      broken = λ whole. two.keeps.broken (one.keeps.broken whole);
-      side = λ on packs. stays_then Side h.store.log g.store.log k.store.log (one.keeps.side on packs) (two.keeps.side on packs);
-      moments = λ on tells whole m is leaves.
-          let whole_then : g.store.broken ≡ false = one.keeps.broken whole in
-          let list : g.store.list ≡ m.list = one.list tells whole ∙ sym (is.list whole) in
-          let first = one.keeps.moments on tells whole m is leaves in
-          joined (Leaves Main (λ bytes. stands bytes m.list)) h.store.log g.store.log k.store.log first
-          (subst (λ (l : List Transaction). LeavesOnly Main (λ bytes. stands bytes l) g.store.log k.store.log) list
-          (two.keeps.moments on tells whole_then (machine_of g) (stands_for g)
-          (subst (λ (l : List Transaction). Leaves Main (λ bytes. stands bytes l) g.store.log) (sym list) (along_now (Leaves Main (λ bytes. stands bytes m.list)) h.store.log g.store.log first))));
-    };
+    keeps = keeps_then o one.keeps one.list two.keeps;
     list = λ tells whole. two.list tells (one.keeps.broken whole) ∙ one.list tells whole;
     whole = two.whole;
   }

@@ -78,7 +78,8 @@ use Rattle.connection_view.specs.Works.{Work}
 use Rattle.remote_loads.specs.Standing.{Stands}
 use Rattle.zeo_serving.specs.Laws.{fresh_client}
 use Rattle.zeo_serving.specs.Serving.{view_at}
-use Rattle.client_turns.proofs.Others.{others_behind, others_same, others_step, whole_same}
+use Rattle.remote_loads.specs.KnownLaws.{whole_same}
+use Rattle.client_turns.proofs.Others.{others_behind, others_same, others_step}
 use Rattle.zeo_desk.specs.declared.asked.Asked.TheVariants as asked
 use Rattle.zeo_messages.specs.declared.call.Call.TheVariants as calls
 use Rattle.zb_model.specs.declared.news.News.{News}

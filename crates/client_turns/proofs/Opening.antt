@@ -43,7 +43,7 @@ use Rattle.zodb_core.specs.Sound.{IsSoundMachine}
 use Rattle.zodb_core.specs.SoundLaws.{opened_sound}
 use Rattle.client_turns.proofs.Following.{FollowsLine, opened_moment}
 use Rattle.client_turns.proofs.Keeping.{IsKept, none_kept, rise_more}
-use Rattle.client_turns.proofs.Others.{known_may}
+use Rattle.remote_loads.specs.KnownLaws.{known_may}
 use Rattle.client_turns.specs.declared.errors.TurnError.{TurnError}
 use Rattle.client_turns.specs.Clients.{Local, Moment, place_of_client}
 use Rattle.client_turns.specs.Lines.{answer_of, end_of}

@@ -1,15 +1,14 @@
 -- Steps of one session keep the clients of all others.
-use Rattle.std.proofs.Common.{◌≡◌, ℕ, zero, suc, ◌<◌, ◌^◌, Bool, true, false, List, [], ◌∷◌, map, Option, refl, sym, ap, subst, ◌∙◌}
+use Rattle.std.proofs.Common.{◌≡◌, ℕ, zero, suc, ◌<◌, ◌^◌, Bool, true, false, List, [], ◌∷◌, map, Option, refl, sym, subst, ◌∙◌}
 use Rattle.std.specs.Prelude.{◌≢◌}
 use Rattle.std.proofs.lemmas.Bool.{true≢false}
 use Rattle.zb_ids.specs.declared.stamp.Stamp.{Stamp}
 use Rattle.zb_model.specs.declared.data.Transaction.{Transaction}
 use Rattle.zb_model.specs.Rules.{MergeRules}
-use Rattle.zodb_core.specs.declared.journal.JournalEntry.{JournalEntry}
 use Rattle.zodb_core.specs.declared.reply.Reply.{Reply}
 use Rattle.zodb_core.specs.declared.request.Request.{Request}
 use Rattle.zodb_core.specs.HubState.{HubState, counts_of, rules_of}
-use Rattle.zodb_core.specs.Machine.{Machine, MachineSession, MachineVote, OpenPack, Rules, is_open_in}
+use Rattle.zodb_core.specs.Machine.{Machine, MachineSession, Rules, is_open_in}
 use Rattle.zodb_core.specs.Outcomes.{Answered, FaultCounts, IsStepMade, NoMemory, ReadingFailed, StepOutcome, StoreFailed, closed_session, machine_left, outcome_of}
 use Rattle.zodb_core.specs.Sound.{IsSoundMachine, IsWellFormedRequest}
 use Rattle.zodb_core.specs.SoundLaws.{left_sound}
@@ -20,38 +19,13 @@ use Rattle.hub_carrier.specs.EndLaws.{known_at, stands_at}
 use Rattle.hub_carrier.specs.Ends.{machine_at}
 use Rattle.local_loads.specs.LocalLaws.{kept_behind}
 use Rattle.local_loads.specs.Making.{IsHubStep}
-use Rattle.remote_loads.specs.Carrying.{IsKnownAs}
+use Rattle.remote_loads.specs.KnownLaws.{known_may}
 use Rattle.zeo_cache.specs.Intervals.{Intervals}
 use Rattle.zeo_serving.specs.declared.standing.Standing.{Standing}
 use Rattle.zeo_serving.specs.MayLaws.{step_failed}
 use Rattle.zeo_serving.specs.Serving.{IsServed, MayBeServed}
 use Rattle.zeo_serving.specs.ServingLaws.{others_keep}
 use Rattle.client_turns.specs.Others.{KeepsOthers}
-
--- ---- machines that are known
-
--- one that is whole is the one that it is known as
-pub whole_same : (m now : Machine) → IsKnownAs m now → m.failed ≡ false → now ≡ m
-whole_same m now known whole =
-    ap (λ (xs : List Transaction). record now { list = xs }) (known.list whole)
-    ∙ ap (λ (xs : List JournalEntry). record now { list = m.list; journal = xs }) known.journal
-    ∙ ap (λ (k : ℕ). record now { list = m.list; journal = m.journal; greatest = k }) known.greatest
-    ∙ ap (λ (xs : List MachineSession). record now { list = m.list; journal = m.journal; greatest = m.greatest; sessions = xs }) known.sessions
-    ∙ ap (λ (v : Option MachineVote). record now { list = m.list; journal = m.journal; greatest = m.greatest; sessions = m.sessions; vote = v }) (known.vote whole)
-    ∙ ap (λ (p : Option OpenPack). record now { list = m.list; journal = m.journal; greatest = m.greatest; sessions = m.sessions; vote = m.vote; pack = p }) known.pack
-    ∙ ap (λ (b : Bool). record m { failed = b }) known.failed
-
--- who may be served there may be where that is known as another one
-pub known_may : (m now : Machine) (n : ℕ) (z : Standing) (entries : Intervals) (c : Client) → IsKnownAs m now → MayBeServed m n z entries c → MayBeServed now n z entries c
-known_may m now n z entries c known may = record {
-  at = may.at;
-  sound = may.sound;
-  served = may.served;
-  whole = λ is. let whole : m.failed ≡ false = sym known.failed ∙ is in may.whole whole ∙ sym (whole_same m now known whole);
-  shut = λ broke. subst (λ (xs : List MachineSession). is_open_in xs n ≡ false) (sym known.sessions) (may.shut (sym known.failed ∙ broke));
-  front = may.front;
-  switches = may.switches;
-}
 
 -- ---- a step of a machine that is whole
 

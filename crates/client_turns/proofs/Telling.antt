@@ -2,16 +2,11 @@
 use Rattle.std.proofs.Common.{◌≡◌, ◌<◌, ℕ, Bool, true, false, List, length, Option, Some, None, Result, Ok, Err, refl, sym, subst, ◌∙◌, arith, inl, inr}
 use Rattle.std.specs.Prelude.{IsSome, is_some, slice_get}
 use Rattle.zb_ids.specs.declared.stamp.Stamp.{Stamp}
-use Rattle.zb_volume.specs.declared.areas.Area.TheVariants.{Main, Side}
-use Rattle.zb_volume.specs.Moments.{Leaves, LeavesOnly}
-use Rattle.zb_volume.specs.Runs.{along_now, joined}
-use Rattle.zb_model.specs.StayLaws.{stays_then}
 use Rattle.zb_model.specs.declared.data.Transaction.{Transaction}
 use Rattle.zb_model.specs.declared.refusal.Refusal.{Refusal}
 use Rattle.zb_model.specs.declared.refusal.Refusal.TheVariants as refusal
-use Rattle.zodb_core.specs.HubState.{HubState, counts_of}
-use Rattle.zodb_core.specs.Outcomes.{Answered, FaultCounts, StepOutcome}
-use Rattle.local_loads.specs.LocalLaws.{machine_of, stands_for}
+use Rattle.zodb_core.specs.HubState.{HubState}
+use Rattle.zodb_core.specs.Outcomes.{Answered, StepOutcome}
 use Rattle.client_turns.specs.declared.client.Client.{Client}
 use Rattle.client_turns.specs.declared.errors.TurnError.{TurnError}
 use Rattle.client_turns.specs.declared.linked.LinkedClient.{LinkedClient}
@@ -24,13 +19,13 @@ use Rattle.client_turns.specs.Clients as seen
 use Rattle.client_turns.specs.Gathering.{IsDrawIn, TakesMemberDraw}
 use Rattle.client_turns.specs.Linked.{IsLinkedDraw, LinkedGives, MayStand, MayTakeLinked, TakesLinkedDraw, TakesLinkedRead, end_of_result}
 use Rattle.client_turns.specs.Members.{IsFarOf, IsLinkedOf}
-use Rattle.client_turns.specs.Lines.{IsCountedBy}
 use Rattle.client_turns.specs.Reads.{EndsReading}
 use Rattle.client_turns.specs.OverQuestions.{ReadsLinked}
 use Rattle.client_turns.specs.Standing.{ClientsState, IsGotAs, IsGotWhere, MayBeThere, MayReadFor, MayTakeMember, MemberLeadsTo, ReadsHub, TakesMemberRead}
 use Rattle.commit_phases.specs.Pending.{pending_of}
 use Rattle.zb_model.specs.declared.pending.PendingStore.{PendingStore}
 use Rattle.client_turns.proofs.Advancing.{calm_reads, still_reads}
+use Rattle.client_turns.proofs.Framing.{keeps_then}
 use Rattle.client_turns.proofs.Handing.{keeps_told}
 use Rattle.client_turns.proofs.Others.{others_same}
 use Rattle.client_turns.proofs.One.{near_leads, set_there}
@@ -66,22 +61,7 @@ module _ {R F : Type 0} (told lasts : Type 0) (stands : List ℕ → List Transa
   -- one part behind another
   pub then_linked : (o : StepOutcome) (h g k : HubState R F) → ReadsLinked told lasts stands Answered h g → ReadsLinked told lasts stands o g k → ReadsLinked told lasts stands o h k
   then_linked o h g k one two = record {
-    keeps = record {
-      resolver = two.keeps.resolver ∙ one.keeps.resolver;
-      refs = two.keeps.refs ∙ one.keeps.refs;
-      later = record { reads = omega (arith, one.keeps.later.reads, two.keeps.later.reads); others = omega (arith, one.keeps.later.others, two.keeps.later.others) };
-      cause = subst (λ (c : FaultCounts). IsCountedBy c (counts_of k.store) o) one.keeps.cause two.keeps.cause;
-      broken = λ whole. two.keeps.broken (one.keeps.broken whole);
-      side = λ on packs. stays_then Side h.store.log g.store.log k.store.log (one.keeps.side on packs) (two.keeps.side on packs);
-      moments = λ on tells whole m is leaves.
-          let whole_then : g.store.broken ≡ false = one.keeps.broken whole in
-          let list : g.store.list ≡ m.list = one.list tells whole ∙ sym (is.list whole) in
-          let first = one.keeps.moments on tells whole m is leaves in
-          joined (Leaves Main (λ bytes. stands bytes m.list)) h.store.log g.store.log k.store.log first
-          (subst (λ (l : List Transaction). LeavesOnly Main (λ bytes. stands bytes l) g.store.log k.store.log) list
-          (two.keeps.moments on tells whole_then (machine_of g) (stands_for g)
-          (subst (λ (l : List Transaction). Leaves Main (λ bytes. stands bytes l) g.store.log) (sym list) (along_now (Leaves Main (λ bytes. stands bytes m.list)) h.store.log g.store.log first))));
-    };
+    keeps = keeps_then told lasts stands h g k o one.keeps one.list two.keeps;
     list = λ tells whole. two.list tells (one.keeps.broken whole) ∙ one.list tells whole;
     whole = two.whole;
   }

@@ -1,13 +1,11 @@
 -- Clients with a link to a session of the same program, as they are kept, and how their lines end. Own.
-use Rattle.std.specs.Prelude.{◌≡◌, ◌⊎◌, ℕ, List, Option, Some, None, Result, Ok, Err, true, false, slice_get, slice_set}
+use Rattle.std.specs.Prelude.{◌≡◌, ◌⊎◌, ℕ, List, Option, Some, None, Result, Ok, Err, true, slice_get, slice_set}
 use Rattle.zb_ids.specs.declared.stamp.Stamp.{Stamp}
 use Rattle.zb_model.specs.declared.refusal.Refusal.{Refusal}
 use Rattle.zb_model.specs.declared.refusal.Refusal.TheVariants as refusal
 use Rattle.zb_answers.specs.declared.answer.Answer.{Answer}
 use Rattle.zb_script.specs.declared.line.Line.{Line}
-use Rattle.zb_model.specs.declared.data.Transaction.{Transaction}
-use Rattle.zodb_core.specs.HubState.{HubState, is_store_failed}
-use Rattle.zodb_core.specs.Outcomes.{StepOutcome}
+use Rattle.zodb_core.specs.HubState.{HubState}
 use Rattle.zodb_core.specs.Machine.{Rules, is_open_in}
 use Rattle.connection_view.specs.Views as views
 use Rattle.hub_carrier.specs.Ends.{machine_at}
@@ -21,7 +19,7 @@ use Rattle.client_turns.specs.Laws.{IsFormedClient}
 use Rattle.client_turns.specs.Lines.{end_in, end_of}
 pub use Rattle.client_turns.specs.Members.{IsLinkedOf, IsLinkedOpen, IsLinkedWork, StandsForHub, linked_as}
 use Rattle.client_turns.specs.Others.{KeepsOthers}
-use Rattle.client_turns.specs.Standing.{IsLineOpen, KeepsHub}
+use Rattle.client_turns.specs.Standing.{IsLineOpen}
 use Rattle.client_turns.specs.Trees.{IsDrawn, IsUndrawn}
 use Rattle.client_turns.specs.Turns.{IsCutAt}
 
@@ -96,9 +94,3 @@ IsLinkedDraw m n (Err why) now = IsUndrawn m n why now
 abbrev pub TakesLinkedDraw : {R F : Type 0} → Type 0 → Result ℕ Refusal → HubState R F → HubState R F → LinkedClient → LinkedClient → Option (List Stamp) → Option (List Stamp) → Type 0
 TakesLinkedDraw told result old new x y before after =
     told → (m : Moment) (at : ℕ) (c : clients.Client) → MayTakeLinked old before m at x c → LinkedGives (end_of_result result) (IsLinkedDraw m c.session result) m at c.session old new y after
-
--- What a read or a draw over a link does to the hub: no list is changed, and where some client may be at the link (`told`), no store failed.
-pub record LinkedReadsHub {R F : Type 0} (told lasts : Type 0) (stands : List ℕ → List Transaction → Type 0) (o : StepOutcome) (old new : HubState R F) : Type 0 where
-  pub keeps : KeepsHub told lasts stands false (λ m bytes. stands bytes m.list) o old new
-  pub list : told → old.store.broken ≡ false → new.store.list ≡ old.store.list
-  pub whole : told → is_store_failed o ≡ false

@@ -31,7 +31,7 @@ use Rattle.zeo_serving.specs.VoteLaws.{less_serves}
 use Rattle.zeo_client.specs.Hearing.{Held, IsAnswerHeard}
 use Rattle.zeo_client.specs.SyncLaws.{HearsAll, IsNewsHeard, behind_unnamed, front_parts, news_is_heard, told_below}
 use Rattle.remote_loads.specs.Carrying.{IsMachineStep}
-use Rattle.remote_loads.proofs.Known.{whole_same}
+use Rattle.remote_loads.specs.KnownLaws.{whole_same}
 use Rattle.remote_loads.proofs.Loading.{MayBeAt}
 
 -- ---- a client behind its commit

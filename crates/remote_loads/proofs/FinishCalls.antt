@@ -59,7 +59,7 @@ use Rattle.remote_loads.proofs.Called.{next_low}
 use Rattle.remote_loads.proofs.Commits.{IsBehind, IsNearly, behind_nearly, commit_leaves, freed, front_nearly, front_refused, nearly_syncs}
 use Rattle.remote_loads.proofs.FinishServed.{FinishServed, by_end, by_front, commit_sent, done_sent, end_sent, finish_breaks, finish_served, served_alone, served_commit, tid_sent}
 use Rattle.remote_loads.proofs.Heard.{AllCame, all_come, answer_behind, news_heard}
-use Rattle.remote_loads.proofs.Known.{known_may, whole_same}
+use Rattle.remote_loads.specs.KnownLaws.{known_may, whole_same}
 use Rattle.remote_loads.proofs.Loading.{MayBeAt}
 use Rattle.remote_loads.proofs.Sendings.{by_sent, frames_are}
 use Rattle.remote_loads.proofs.SyncCalls.{SyncGot, got_front, sync_got}

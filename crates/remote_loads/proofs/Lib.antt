@@ -5,7 +5,6 @@ pub mod Exchanging
 pub mod FinishCalls
 pub mod FinishServed
 pub mod Heard
-pub mod Known
 pub mod Loading
 pub mod Loads
 pub mod Made

@@ -31,7 +31,7 @@ use Rattle.zeo_client.specs.SyncLaws.{loads_serve}
 use Rattle.remote_loads.specs.Answers.{load_answer}
 use Rattle.remote_loads.specs.Carrying.{IsMachineStep}
 use Rattle.remote_loads.specs.Talking.{MayBeHeard, answer_sent}
-use Rattle.remote_loads.proofs.Known.{known_may}
+use Rattle.remote_loads.specs.KnownLaws.{known_may}
 use Rattle.remote_loads.proofs.Rows.{by_reply}
 use Rattle.remote_loads.proofs.Sendings.{by_sent}
 

@@ -45,7 +45,7 @@ use Rattle.remote_loads.specs.Sending.{HoldsReply}
 use Rattle.remote_loads.specs.Served.{Does, DoesFront, MaySteps, Serves, ServesFront, begins, no_step, one_step, serves_none, serves_on, steps_off, steps_on, stops}
 use Rattle.remote_loads.proofs.BrokenCall.{front_none, front_sent}
 use Rattle.remote_loads.proofs.Commits.{IsLeft, heard_left, served_may}
-use Rattle.remote_loads.proofs.Known.{whole_same}
+use Rattle.remote_loads.specs.KnownLaws.{whole_same}
 use Rattle.remote_loads.proofs.OneCall.{serves_one, was_asked, was_sent}
 
 -- ---- the desk

@@ -45,7 +45,7 @@ use Rattle.remote_loads.specs.Requesting.{IsQuestionMade, QuestionLeaves, asks_h
 use Rattle.remote_loads.specs.Served.{IsAnsweredAtOnce, no_step, one_step}
 use Rattle.remote_loads.specs.Standing.{Stands}
 use Rattle.remote_loads.specs.Talking.{IsCalled, IsUnsent, answered, unheard, unmade, unsent}
-use Rattle.remote_loads.proofs.Known.{known_may}
+use Rattle.remote_loads.specs.KnownLaws.{known_may}
 use Rattle.remote_loads.proofs.Called.{HasRow, NamesOne, asked_so}
 use Rattle.remote_loads.proofs.Loading.{MayBeAt}
 use Rattle.remote_loads.proofs.Questions.{question_answered, turn_so}

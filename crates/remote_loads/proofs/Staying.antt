@@ -32,7 +32,7 @@ use Rattle.remote_loads.specs.Leaving.{AbortLeaves, OidLeaves}
 use Rattle.remote_loads.specs.Making.{IsMadeBy, answered_so, free_if_done, left_alone, made_by}
 use Rattle.remote_loads.specs.Standing.{IsAtRest, Stands}
 use Rattle.remote_loads.specs.Talking.{IsCalled, answer_sent, answer_given, answered, unheard, unmade, unsent}
-use Rattle.remote_loads.proofs.Known.{known_may}
+use Rattle.remote_loads.specs.KnownLaws.{known_may}
 use Rattle.remote_loads.proofs.Called.{NamesOne, asked_so}
 use Rattle.remote_loads.proofs.Loading.{MayBeAt}
 use Rattle.remote_loads.proofs.Loads.{makes_one}

@@ -45,7 +45,7 @@ use Rattle.remote_loads.specs.Sending.{HoldsReply, messages_of, notices_before}
 use Rattle.remote_loads.specs.Served.{IsAnsweredAtOnce, MaySteps, no_step, one_step}
 use Rattle.remote_loads.specs.Standing.{IsAtRest, Stands}
 use Rattle.remote_loads.specs.Talking.{IsAsked, IsExchanged, IsTalked, IsUnsent, IsWayLost, answer_in, answer_sent, broke_off, came, not_sent, refused_so, talk_answered, talk_failed, talk_waited, waiting_for, was_sent}
-use Rattle.remote_loads.proofs.Known.{known_may}
+use Rattle.remote_loads.specs.KnownLaws.{known_may}
 use Rattle.remote_loads.proofs.BrokenCall.{one_call_breaks}
 use Rattle.remote_loads.proofs.Called.{next_low}
 use Rattle.remote_loads.proofs.Heard.{AllCame, all_come, answer_behind, news_heard, news_sent}

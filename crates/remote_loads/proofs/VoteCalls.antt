@@ -35,7 +35,7 @@ use Rattle.remote_loads.specs.Making.{AreHeld, IsAskedFor, IsUndoMade, IsVoteMad
 use Rattle.remote_loads.specs.Served.{IsAnsweredAtOnce, MaySteps, Serves, ServesFront, no_step}
 use Rattle.remote_loads.specs.Standing.{IsAtRest, Stands}
 use Rattle.remote_loads.specs.Talking.{IsCalled, Talks}
-use Rattle.remote_loads.proofs.Known.{known_may}
+use Rattle.remote_loads.specs.KnownLaws.{known_may}
 use Rattle.remote_loads.proofs.BrokenCall.{one_call_breaks}
 use Rattle.remote_loads.proofs.Called.{IsServedAt, NamesOne, asked_so, next_low, talked_so}
 use Rattle.remote_loads.proofs.Loading.{MayBeAt}

@@ -3,6 +3,7 @@ pub mod Carrying
 pub mod Causes
 pub mod Finishing
 pub mod Keeping
+pub mod KnownLaws
 pub mod Leaving
 pub mod Making
 pub mod Registering

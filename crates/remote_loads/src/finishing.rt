@@ -1,10 +1,8 @@
 //! The finish of a remote client, exactly as the machine at the other end of a carrier that tells makes it.
 
-ghost use Rattle.std.specs.Prelude.{◌≤◌, IfErr};
 ghost use Rattle.connection_view.specs.Views.{Client};
-ghost use Rattle.remote_loads.specs.Causes.{IsRemoteRefusal};
 ghost use Rattle.remote_loads.specs.Finishing.{FinishLeaves, IsFinishMade, IsToldBehind};
-ghost use Rattle.remote_loads.specs.Keeping.{KeepsWay};
+ghost use Rattle.remote_loads.specs.Keeping.{GoesItsWay};
 ghost use Rattle.remote_loads.specs.Standing.{Stands};
 
 use crate::answers::finish_answer;
@@ -21,12 +19,8 @@ impl<'c, W: Carrier> Remote<'c, W> {
     /// A sync behind a commit, which is answered behind it.
     #[tactic(auto, using(crate::proofs::Made::behind_refused, crate::proofs::Made::behind_told))]
     fn told_behind(&mut self, tid: Tid) -> Result<Option<Tid>, Refusal>
-        ensures refused { IfErr result (IsRemoteRefusal (W.faults self.old.carrier)
-            (W.faults self.new.carrier) (W.closed self.new.carrier) self.new.client.now.ended) }
-        ensures never_falls { (W.faults self.old.carrier ≤ W.faults self.new.carrier)
-            × (self.old.client.now.held.standing.known ≤ self.new.client.now.held.standing.known) }
-        ensures keeps { KeepsWay W.session W.place W.later self.old.carrier self.new.carrier
-            self.old.client.ghost_name self.new.client.ghost_name }
+        ensures way { GoesItsWay W.faults W.closed W.session W.place W.later self.old.carrier
+            self.new.carrier self.old.client self.new.client result }
         ensures told { W.told → IsToldBehind (W.steps (W.session self.old.carrier))
             (W.end self.old.carrier) (W.desk self.old.carrier) self.old.client.now tid result
             self.new.client.now (W.end self.new.carrier) (W.desk self.new.carrier) }
@@ -40,12 +34,8 @@ impl<'c, W: Carrier> Remote<'c, W> {
     /// A finish, by a call, and the sync behind a commit.
     #[tactic(auto, using(crate::proofs::Made::finish_unheard, crate::proofs::Made::finish_refuses, crate::proofs::Made::finish_empties, crate::proofs::Made::finish_commits_so,))]
     fn finish_made(&mut self) -> Result<Option<Tid>, Refusal>
-        ensures refused { IfErr result (IsRemoteRefusal (W.faults self.old.carrier)
-            (W.faults self.new.carrier) (W.closed self.new.carrier) self.new.client.now.ended) }
-        ensures never_falls { (W.faults self.old.carrier ≤ W.faults self.new.carrier)
-            × (self.old.client.now.held.standing.known ≤ self.new.client.now.held.standing.known) }
-        ensures keeps { KeepsWay W.session W.place W.later self.old.carrier self.new.carrier
-            self.old.client.ghost_name self.new.client.ghost_name }
+        ensures way { GoesItsWay W.faults W.closed W.session W.place W.later self.old.carrier
+            self.new.carrier self.old.client self.new.client result }
         ensures told { W.told → IsFinishMade (W.steps (W.session self.old.carrier))
             (W.end self.old.carrier) (W.desk self.old.carrier) self.old.client.now
             result self.new.client.now (W.end self.new.carrier) (W.desk self.new.carrier) }
@@ -68,12 +58,8 @@ impl<'c, W: Carrier> Remote<'c, W> {
 
     /// Commits what is voted. Behind a commit the client knows the list as it stands then.
     pub(crate) fn finish_vote(&mut self) -> Result<Option<Tid>, Refusal>
-        ensures refused { IfErr result (IsRemoteRefusal (W.faults self.old.carrier)
-            (W.faults self.new.carrier) (W.closed self.new.carrier) self.new.client.now.ended) }
-        ensures never_falls { (W.faults self.old.carrier ≤ W.faults self.new.carrier)
-            × (self.old.client.now.held.standing.known ≤ self.new.client.now.held.standing.known) }
-        ensures keeps { KeepsWay W.session W.place W.later self.old.carrier self.new.carrier
-            self.old.client.ghost_name self.new.client.ghost_name }
+        ensures way { GoesItsWay W.faults W.closed W.session W.place W.later self.old.carrier
+            self.new.carrier self.old.client self.new.client result }
         ensures exact { W.told → (c : Client) → Stands (W.machine (W.end self.old.carrier))
             (W.session self.old.carrier) (W.desk self.old.carrier) self.old.client.now c
             → FinishLeaves (W.steps (W.session self.old.carrier)) W.machine

@@ -1,11 +1,9 @@
 //! Calls of a remote client that name one step, exactly as the machine at the other end of a carrier that tells makes it.
 
-ghost use Rattle.std.specs.Prelude.{◌≤◌, IfErr};
 ghost use Rattle.connection_view.specs.Views.{Client};
 ghost use Rattle.zeo_messages.specs.declared.call.Call.{Call};
 ghost use Rattle.remote_loads.specs.Answers.{done_answer, oid_answer};
-ghost use Rattle.remote_loads.specs.Causes.{IsRemoteRefusal};
-ghost use Rattle.remote_loads.specs.Keeping.{KeepsWay};
+ghost use Rattle.remote_loads.specs.Keeping.{GoesItsWay};
 ghost use Rattle.remote_loads.specs.Leaving.{AbortLeaves, LoadLeaves, OidLeaves};
 ghost use Rattle.remote_loads.specs.Making.{IsLoadMade, IsMadeBy, free_if_done, left_alone};
 ghost use Rattle.remote_loads.specs.Standing.{Stands};
@@ -25,12 +23,8 @@ impl<'c, W: Carrier> Remote<'c, W> {
     /// A load: what the cache answers, or else a call.
     #[tactic(auto, using(crate::proofs::Made::load_starved, crate::proofs::Made::load_hit, crate::proofs::Made::load_refused, crate::proofs::Made::load_answers,))]
     fn load_made(&mut self, oid: Oid, front: Tid) -> Result<Loaded, Refusal>
-        ensures refused { IfErr result (IsRemoteRefusal (W.faults self.old.carrier)
-            (W.faults self.new.carrier) (W.closed self.new.carrier) self.new.client.now.ended) }
-        ensures never_falls { (W.faults self.old.carrier ≤ W.faults self.new.carrier)
-            × (self.old.client.now.held.standing.known ≤ self.new.client.now.held.standing.known) }
-        ensures keeps { KeepsWay W.session W.place W.later self.old.carrier self.new.carrier
-            self.old.client.ghost_name self.new.client.ghost_name }
+        ensures way { GoesItsWay W.faults W.closed W.session W.place W.later self.old.carrier
+            self.new.carrier self.old.client self.new.client result }
         ensures told { W.told → IsLoadMade (W.steps (W.session self.old.carrier))
             (W.end self.old.carrier) (W.desk self.old.carrier) self.old.client.now oid front
             result self.new.client.now (W.end self.new.carrier) (W.desk self.new.carrier) }
@@ -50,12 +44,8 @@ impl<'c, W: Carrier> Remote<'c, W> {
 
     /// What an object has below a front. A hit of the cache makes no step, a miss one at most.
     pub(crate) fn load_at(&mut self, oid: Oid, front: Tid) -> Result<Loaded, Refusal>
-        ensures refused { IfErr result (IsRemoteRefusal (W.faults self.old.carrier)
-            (W.faults self.new.carrier) (W.closed self.new.carrier) self.new.client.now.ended) }
-        ensures never_falls { (W.faults self.old.carrier ≤ W.faults self.new.carrier)
-            × (self.old.client.now.held.standing.known ≤ self.new.client.now.held.standing.known) }
-        ensures keeps { KeepsWay W.session W.place W.later self.old.carrier self.new.carrier
-            self.old.client.ghost_name self.new.client.ghost_name }
+        ensures way { GoesItsWay W.faults W.closed W.session W.place W.later self.old.carrier
+            self.new.carrier self.old.client self.new.client result }
         ensures exact { W.told → (c : Client) → Stands (W.machine (W.end self.old.carrier))
             (W.session self.old.carrier) (W.desk self.old.carrier) self.old.client.now c
             → LoadLeaves (W.steps (W.session self.old.carrier)) W.machine
@@ -72,12 +62,8 @@ impl<'c, W: Carrier> Remote<'c, W> {
     /// A new number, by a call.
     #[tactic(auto, using(crate::proofs::Made::made_refused, crate::proofs::Made::made_answers))]
     fn oid_made(&mut self) -> Result<Oid, Refusal>
-        ensures refused { IfErr result (IsRemoteRefusal (W.faults self.old.carrier)
-            (W.faults self.new.carrier) (W.closed self.new.carrier) self.new.client.now.ended) }
-        ensures never_falls { (W.faults self.old.carrier ≤ W.faults self.new.carrier)
-            × (self.old.client.now.held.standing.known ≤ self.new.client.now.held.standing.known) }
-        ensures keeps { KeepsWay W.session W.place W.later self.old.carrier self.new.carrier
-            self.old.client.ghost_name self.new.client.ghost_name }
+        ensures way { GoesItsWay W.faults W.closed W.session W.place W.later self.old.carrier
+            self.new.carrier self.old.client self.new.client result }
         ensures told { W.told → IsMadeBy (W.steps (W.session self.old.carrier))
             (W.end self.old.carrier) (W.desk self.old.carrier) self.old.client.now (Call.NewOids 1)
             oid_answer left_alone
@@ -92,12 +78,8 @@ impl<'c, W: Carrier> Remote<'c, W> {
 
     /// A new number. One step at most is made.
     pub(crate) fn next_oid(&mut self) -> Result<Oid, Refusal>
-        ensures refused { IfErr result (IsRemoteRefusal (W.faults self.old.carrier)
-            (W.faults self.new.carrier) (W.closed self.new.carrier) self.new.client.now.ended) }
-        ensures never_falls { (W.faults self.old.carrier ≤ W.faults self.new.carrier)
-            × (self.old.client.now.held.standing.known ≤ self.new.client.now.held.standing.known) }
-        ensures keeps { KeepsWay W.session W.place W.later self.old.carrier self.new.carrier
-            self.old.client.ghost_name self.new.client.ghost_name }
+        ensures way { GoesItsWay W.faults W.closed W.session W.place W.later self.old.carrier
+            self.new.carrier self.old.client self.new.client result }
         ensures exact { W.told → (c : Client) → Stands (W.machine (W.end self.old.carrier))
             (W.session self.old.carrier) (W.desk self.old.carrier) self.old.client.now c
             → OidLeaves (W.steps (W.session self.old.carrier)) W.machine
@@ -112,12 +94,8 @@ impl<'c, W: Carrier> Remote<'c, W> {
     /// The end of a vote, by a call.
     #[tactic(auto, using(crate::proofs::Made::abort_refused, crate::proofs::Made::abort_answers))]
     fn abort_made(&mut self) -> Result<(), Refusal>
-        ensures refused { IfErr result (IsRemoteRefusal (W.faults self.old.carrier)
-            (W.faults self.new.carrier) (W.closed self.new.carrier) self.new.client.now.ended) }
-        ensures never_falls { (W.faults self.old.carrier ≤ W.faults self.new.carrier)
-            × (self.old.client.now.held.standing.known ≤ self.new.client.now.held.standing.known) }
-        ensures keeps { KeepsWay W.session W.place W.later self.old.carrier self.new.carrier
-            self.old.client.ghost_name self.new.client.ghost_name }
+        ensures way { GoesItsWay W.faults W.closed W.session W.place W.later self.old.carrier
+            self.new.carrier self.old.client self.new.client result }
         ensures told { W.told → IsMadeBy (W.steps (W.session self.old.carrier))
             (W.end self.old.carrier) (W.desk self.old.carrier) self.old.client.now Call.TpcAbort
             done_answer free_if_done
@@ -136,12 +114,8 @@ impl<'c, W: Carrier> Remote<'c, W> {
 
     /// Drops the vote, if the session holds one. One step at most is made.
     pub(crate) fn drop_vote(&mut self) -> Result<(), Refusal>
-        ensures refused { IfErr result (IsRemoteRefusal (W.faults self.old.carrier)
-            (W.faults self.new.carrier) (W.closed self.new.carrier) self.new.client.now.ended) }
-        ensures never_falls { (W.faults self.old.carrier ≤ W.faults self.new.carrier)
-            × (self.old.client.now.held.standing.known ≤ self.new.client.now.held.standing.known) }
-        ensures keeps { KeepsWay W.session W.place W.later self.old.carrier self.new.carrier
-            self.old.client.ghost_name self.new.client.ghost_name }
+        ensures way { GoesItsWay W.faults W.closed W.session W.place W.later self.old.carrier
+            self.new.carrier self.old.client self.new.client result }
         ensures exact { W.told → (c : Client) → Stands (W.machine (W.end self.old.carrier))
             (W.session self.old.carrier) (W.desk self.old.carrier) self.old.client.now c
             → AbortLeaves (W.steps (W.session self.old.carrier)) W.machine

@@ -1,9 +1,8 @@
 //! A client with the way to its server.
 
-ghost use Rattle.std.specs.Prelude.{◌≡◌, ◌≤◌, IfErr, true};
+ghost use Rattle.std.specs.Prelude.{◌≡◌, true};
 ghost use Rattle.zeo_messages.specs.Calls.{fits_call};
-ghost use Rattle.remote_loads.specs.Causes.{IsRemoteRefusal};
-ghost use Rattle.remote_loads.specs.Keeping.{KeepsWay};
+ghost use Rattle.remote_loads.specs.Keeping.{GoesItsWay};
 ghost use Rattle.remote_loads.specs.Talking.{Exchanges, IsAsked, Talks, answer_in};
 
 use crate::carrier::Carrier;
@@ -58,12 +57,8 @@ impl<'c, W: Carrier> Remote<'c, W> {
     /// Sends bytes, and takes the messages that came.
     #[tactic(auto, using(crate::proofs::Exchanging::breaks, crate::proofs::Exchanging::takes, crate::proofs::Exchanging::refuses,))]
     fn exchange(&mut self, text: &[u8]) -> Result<ListOf<Message>, Refusal>
-        ensures refused { IfErr result (IsRemoteRefusal (W.faults self.old.carrier)
-            (W.faults self.new.carrier) (W.closed self.new.carrier) self.new.client.now.ended) }
-        ensures never_falls { (W.faults self.old.carrier ≤ W.faults self.new.carrier)
-            × (self.old.client.now.held.standing.known ≤ self.new.client.now.held.standing.known) }
-        ensures keeps { KeepsWay W.session W.place W.later self.old.carrier self.new.carrier
-            self.old.client.ghost_name self.new.client.ghost_name }
+        ensures way { GoesItsWay W.faults W.closed W.session W.place W.later self.old.carrier
+            self.new.carrier self.old.client self.new.client result }
         ensures told { W.told → Exchanges (W.steps (W.session self.old.carrier))
             (W.end self.old.carrier) (W.desk self.old.carrier) self.old.client.now text.now
             result self.new.client.now (W.end self.new.carrier) (W.desk self.new.carrier) }
@@ -80,12 +75,8 @@ impl<'c, W: Carrier> Remote<'c, W> {
 
     /// Waits for an answer behind messages without one.
     fn wait(&mut self) -> Result<Answer, Refusal>
-        ensures refused { IfErr result (IsRemoteRefusal (W.faults self.old.carrier)
-            (W.faults self.new.carrier) (W.closed self.new.carrier) self.new.client.now.ended) }
-        ensures never_falls { (W.faults self.old.carrier ≤ W.faults self.new.carrier)
-            × (self.old.client.now.held.standing.known ≤ self.new.client.now.held.standing.known) }
-        ensures keeps { KeepsWay W.session W.place W.later self.old.carrier self.new.carrier
-            self.old.client.ghost_name self.new.client.ghost_name }
+        ensures way { GoesItsWay W.faults W.closed W.session W.place W.later self.old.carrier
+            self.new.carrier self.old.client self.new.client result }
     {
         'waiting: for _ in 0..u64::MAX {
             let text = Text8::new(self.alloc);
@@ -103,12 +94,8 @@ impl<'c, W: Carrier> Remote<'c, W> {
     /// Sends the frames of calls, and takes what comes up to the answer.
     #[tactic(auto, using(crate::proofs::Exchanging::fails, crate::proofs::Exchanging::answers))]
     pub(crate) fn talk(&mut self, text: Text8) -> Result<Answer, Refusal>
-        ensures refused { IfErr result (IsRemoteRefusal (W.faults self.old.carrier)
-            (W.faults self.new.carrier) (W.closed self.new.carrier) self.new.client.now.ended) }
-        ensures never_falls { (W.faults self.old.carrier ≤ W.faults self.new.carrier)
-            × (self.old.client.now.held.standing.known ≤ self.new.client.now.held.standing.known) }
-        ensures keeps { KeepsWay W.session W.place W.later self.old.carrier self.new.carrier
-            self.old.client.ghost_name self.new.client.ghost_name }
+        ensures way { GoesItsWay W.faults W.closed W.session W.place W.later self.old.carrier
+            self.new.carrier self.old.client self.new.client result }
         ensures told { W.told → Talks (W.steps (W.session self.old.carrier))
             (W.end self.old.carrier) (W.desk self.old.carrier) self.old.client.now text
             result self.new.client.now (W.end self.new.carrier) (W.desk self.new.carrier) }
@@ -127,12 +114,8 @@ impl<'c, W: Carrier> Remote<'c, W> {
     #[tactic(auto, using(crate::proofs::Exchanging::is_unsent, crate::proofs::Exchanging::is_sent))]
     pub(crate) fn ask(&mut self, call: Call) -> Result<Answer, Refusal>
         requires fits { fits_call call ≡ true }
-        ensures refused { IfErr result (IsRemoteRefusal (W.faults self.old.carrier)
-            (W.faults self.new.carrier) (W.closed self.new.carrier) self.new.client.now.ended) }
-        ensures never_falls { (W.faults self.old.carrier ≤ W.faults self.new.carrier)
-            × (self.old.client.now.held.standing.known ≤ self.new.client.now.held.standing.known) }
-        ensures keeps { KeepsWay W.session W.place W.later self.old.carrier self.new.carrier
-            self.old.client.ghost_name self.new.client.ghost_name }
+        ensures way { GoesItsWay W.faults W.closed W.session W.place W.later self.old.carrier
+            self.new.carrier self.old.client self.new.client result }
         ensures told { W.told → IsAsked (W.steps (W.session self.old.carrier))
             (W.end self.old.carrier) (W.desk self.old.carrier) self.old.client.now call
             result self.new.client.now (W.end self.new.carrier) (W.desk self.new.carrier) }

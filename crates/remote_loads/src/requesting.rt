@@ -1,10 +1,9 @@
 //! What a remote client asks of its server beside the calls of its loads.
 
-ghost use Rattle.std.specs.Prelude.{◌≡◌, ◌≤◌, IfErr, true};
+ghost use Rattle.std.specs.Prelude.{◌≡◌, true};
 ghost use Rattle.connection_view.specs.Views.{Client};
 ghost use Rattle.zeo_messages.specs.Calls.{HoldsCall};
-ghost use Rattle.remote_loads.specs.Causes.{IsRemoteRefusal};
-ghost use Rattle.remote_loads.specs.Keeping.{KeepsWay};
+ghost use Rattle.remote_loads.specs.Keeping.{GoesItsWay};
 ghost use Rattle.remote_loads.specs.Making.{IsMadeBy, left_alone};
 ghost use Rattle.remote_loads.specs.Requesting.{QuestionLeaves, asks_history, call_of, empty_reply, is_question, reply_in, turned_reply};
 ghost use Rattle.remote_loads.specs.Standing.{Stands};
@@ -116,12 +115,8 @@ impl<'c, W: Carrier> Remote<'c, W> {
     #[tactic(auto, using(crate::proofs::Made::made_refused, crate::proofs::Made::made_answers))]
     fn question_made(&mut self, request: &Request) -> Result<Reply, Refusal>
         requires question { is_question request.now ≡ true }
-        ensures refused { IfErr result (IsRemoteRefusal (W.faults self.old.carrier)
-            (W.faults self.new.carrier) (W.closed self.new.carrier) self.new.client.now.ended) }
-        ensures never_falls { (W.faults self.old.carrier ≤ W.faults self.new.carrier)
-            × (self.old.client.now.held.standing.known ≤ self.new.client.now.held.standing.known) }
-        ensures keeps { KeepsWay W.session W.place W.later self.old.carrier self.new.carrier
-            self.old.client.ghost_name self.new.client.ghost_name }
+        ensures way { GoesItsWay W.faults W.closed W.session W.place W.later self.old.carrier
+            self.new.carrier self.old.client self.new.client result }
         ensures held { HoldsCall (call_of request.now) }
         ensures told { W.told → IsMadeBy (W.steps (W.session self.old.carrier))
             (W.end self.old.carrier) (W.desk self.old.carrier) self.old.client.now
@@ -140,12 +135,8 @@ impl<'c, W: Carrier> Remote<'c, W> {
     /// at most is made, and exactly one where a reply or a refusal of the server is answered.
     pub fn request(&mut self, request: Request) -> Result<Reply, Refusal>
         requires question { is_question request ≡ true }
-        ensures refused { IfErr result (IsRemoteRefusal (W.faults self.old.carrier)
-            (W.faults self.new.carrier) (W.closed self.new.carrier) self.new.client.now.ended) }
-        ensures never_falls { (W.faults self.old.carrier ≤ W.faults self.new.carrier)
-            × (self.old.client.now.held.standing.known ≤ self.new.client.now.held.standing.known) }
-        ensures keeps { KeepsWay W.session W.place W.later self.old.carrier self.new.carrier
-            self.old.client.ghost_name self.new.client.ghost_name }
+        ensures way { GoesItsWay W.faults W.closed W.session W.place W.later self.old.carrier
+            self.new.carrier self.old.client self.new.client result }
         ensures exact { W.told → (c : Client) → Stands (W.machine (W.end self.old.carrier))
             (W.session self.old.carrier) (W.desk self.old.carrier) self.old.client.now c
             → QuestionLeaves (W.steps (W.session self.old.carrier)) W.machine

@@ -1,11 +1,10 @@
 //! How a remote client asks for the news, and what it knows behind that.
 
-ghost use Rattle.std.specs.Prelude.{◌≡◌, ◌≤◌, IfErr, IfOk};
+ghost use Rattle.std.specs.Prelude.{◌≡◌, IfOk};
 ghost use Rattle.connection_view.specs.Views.{Client};
 ghost use Rattle.zeo_messages.specs.declared.call.Call.{Call};
 ghost use Rattle.remote_loads.specs.Answers.{count_answer};
-ghost use Rattle.remote_loads.specs.Causes.{IsRemoteRefusal};
-ghost use Rattle.remote_loads.specs.Keeping.{KeepsWay};
+ghost use Rattle.remote_loads.specs.Keeping.{GoesItsWay};
 ghost use Rattle.remote_loads.specs.Leaving.{SyncLeaves};
 ghost use Rattle.remote_loads.specs.Making.{IsMadeBy, left_alone};
 ghost use Rattle.remote_loads.specs.Registering.{IsNewcomer, IsRegistered, RegisterLeaves};
@@ -24,12 +23,8 @@ impl<'c, W: Carrier> Remote<'c, W> {
     /// A sync, by a call.
     #[tactic(auto, using(crate::proofs::Made::made_refused, crate::proofs::Made::made_answers))]
     pub(crate) fn sync_made(&mut self) -> Result<Tid, Refusal>
-        ensures refused { IfErr result (IsRemoteRefusal (W.faults self.old.carrier)
-            (W.faults self.new.carrier) (W.closed self.new.carrier) self.new.client.now.ended) }
-        ensures never_falls { (W.faults self.old.carrier ≤ W.faults self.new.carrier)
-            × (self.old.client.now.held.standing.known ≤ self.new.client.now.held.standing.known) }
-        ensures keeps { KeepsWay W.session W.place W.later self.old.carrier self.new.carrier
-            self.old.client.ghost_name self.new.client.ghost_name }
+        ensures way { GoesItsWay W.faults W.closed W.session W.place W.later self.old.carrier
+            self.new.carrier self.old.client self.new.client result }
         ensures told { W.told → IsMadeBy (W.steps (W.session self.old.carrier))
             (W.end self.old.carrier) (W.desk self.old.carrier) self.old.client.now Call.Sync
             count_answer left_alone result self.new.client.now (W.end self.new.carrier)
@@ -44,12 +39,8 @@ impl<'c, W: Carrier> Remote<'c, W> {
 
     /// A sync. Behind one that is answered, the client knows the list as it stood.
     fn hear_news(&mut self) -> Result<Tid, Refusal>
-        ensures refused { IfErr result (IsRemoteRefusal (W.faults self.old.carrier)
-            (W.faults self.new.carrier) (W.closed self.new.carrier) self.new.client.now.ended) }
-        ensures never_falls { (W.faults self.old.carrier ≤ W.faults self.new.carrier)
-            × (self.old.client.now.held.standing.known ≤ self.new.client.now.held.standing.known) }
-        ensures keeps { KeepsWay W.session W.place W.later self.old.carrier self.new.carrier
-            self.old.client.ghost_name self.new.client.ghost_name }
+        ensures way { GoesItsWay W.faults W.closed W.session W.place W.later self.old.carrier
+            self.new.carrier self.old.client self.new.client result }
         ensures exact { W.told → (c : Client) → Stands (W.machine (W.end self.old.carrier))
             (W.session self.old.carrier) (W.desk self.old.carrier) self.old.client.now c
             → SyncLeaves (W.steps (W.session self.old.carrier)) W.machine
@@ -65,12 +56,8 @@ impl<'c, W: Carrier> Remote<'c, W> {
     /// the list as it stood; an error leaves open what it knows.
     pub fn sync(&mut self) -> Result<Tid, Refusal>
         ensures front { IfOk result (λ front. front ≡ self.new.client.now.held.standing.known) }
-        ensures refused { IfErr result (IsRemoteRefusal (W.faults self.old.carrier)
-            (W.faults self.new.carrier) (W.closed self.new.carrier) self.new.client.now.ended) }
-        ensures never_falls { (W.faults self.old.carrier ≤ W.faults self.new.carrier)
-            × (self.old.client.now.held.standing.known ≤ self.new.client.now.held.standing.known) }
-        ensures keeps { KeepsWay W.session W.place W.later self.old.carrier self.new.carrier
-            self.old.client.ghost_name self.new.client.ghost_name }
+        ensures way { GoesItsWay W.faults W.closed W.session W.place W.later self.old.carrier
+            self.new.carrier self.old.client self.new.client result }
         ensures exact { W.told → (c : Client) → Stands (W.machine (W.end self.old.carrier))
             (W.session self.old.carrier) (W.desk self.old.carrier) self.old.client.now c
             → SyncLeaves (W.steps (W.session self.old.carrier)) W.machine
@@ -86,12 +73,8 @@ impl<'c, W: Carrier> Remote<'c, W> {
     /// A registering, by a call, and the sync behind it.
     #[tactic(auto, using(crate::proofs::Made::register_unheard, crate::proofs::Made::register_refuses, crate::proofs::Made::register_syncs,))]
     fn register_made(&mut self) -> Result<Tid, Refusal>
-        ensures refused { IfErr result (IsRemoteRefusal (W.faults self.old.carrier)
-            (W.faults self.new.carrier) (W.closed self.new.carrier) self.new.client.now.ended) }
-        ensures never_falls { (W.faults self.old.carrier ≤ W.faults self.new.carrier)
-            × (self.old.client.now.held.standing.known ≤ self.new.client.now.held.standing.known) }
-        ensures keeps { KeepsWay W.session W.place W.later self.old.carrier self.new.carrier
-            self.old.client.ghost_name self.new.client.ghost_name }
+        ensures way { GoesItsWay W.faults W.closed W.session W.place W.later self.old.carrier
+            self.new.carrier self.old.client self.new.client result }
         ensures told { W.told → IsRegistered (W.steps (W.session self.old.carrier))
             (W.end self.old.carrier) (W.desk self.old.carrier) self.old.client.now
             result self.new.client.now (W.end self.new.carrier) (W.desk self.new.carrier) }
@@ -108,12 +91,8 @@ impl<'c, W: Carrier> Remote<'c, W> {
 
     /// A registering. Behind one that is answered, the client knows the list as it stands.
     fn register_told(&mut self) -> Result<Tid, Refusal>
-        ensures refused { IfErr result (IsRemoteRefusal (W.faults self.old.carrier)
-            (W.faults self.new.carrier) (W.closed self.new.carrier) self.new.client.now.ended) }
-        ensures never_falls { (W.faults self.old.carrier ≤ W.faults self.new.carrier)
-            × (self.old.client.now.held.standing.known ≤ self.new.client.now.held.standing.known) }
-        ensures keeps { KeepsWay W.session W.place W.later self.old.carrier self.new.carrier
-            self.old.client.ghost_name self.new.client.ghost_name }
+        ensures way { GoesItsWay W.faults W.closed W.session W.place W.later self.old.carrier
+            self.new.carrier self.old.client self.new.client result }
         ensures exact { W.told → IsNewcomer (W.machine (W.end self.old.carrier))
             (W.session self.old.carrier) (W.desk self.old.carrier) self.old.client.now
             → RegisterLeaves (W.steps (W.session self.old.carrier)) W.machine
@@ -129,12 +108,8 @@ impl<'c, W: Carrier> Remote<'c, W> {
     /// then on. Where the carrier tells, the client knows the list as it stands; an error leaves open what it knows.
     pub fn register(&mut self) -> Result<Tid, Refusal>
         ensures front { IfOk result (λ front. front ≡ self.new.client.now.held.standing.known) }
-        ensures refused { IfErr result (IsRemoteRefusal (W.faults self.old.carrier)
-            (W.faults self.new.carrier) (W.closed self.new.carrier) self.new.client.now.ended) }
-        ensures never_falls { (W.faults self.old.carrier ≤ W.faults self.new.carrier)
-            × (self.old.client.now.held.standing.known ≤ self.new.client.now.held.standing.known) }
-        ensures keeps { KeepsWay W.session W.place W.later self.old.carrier self.new.carrier
-            self.old.client.ghost_name self.new.client.ghost_name }
+        ensures way { GoesItsWay W.faults W.closed W.session W.place W.later self.old.carrier
+            self.new.carrier self.old.client self.new.client result }
         ensures exact { W.told → IsNewcomer (W.machine (W.end self.old.carrier))
             (W.session self.old.carrier) (W.desk self.old.carrier) self.old.client.now
             → RegisterLeaves (W.steps (W.session self.old.carrier)) W.machine

@@ -1,11 +1,10 @@
 //! Votes and undos of a remote client, exactly as the machine at the other end of a carrier that tells makes them.
 
-ghost use Rattle.std.specs.Prelude.{◌≡◌, ◌≤◌, IfErr, IfOk, OnErr};
+ghost use Rattle.std.specs.Prelude.{◌≡◌, IfErr, IfOk, OnErr};
 ghost use Rattle.zb_model.specs.declared.refusal.Refusal.TheVariants as refusal;
 ghost use Rattle.connection_view.specs.Loading.{AreVotable, IsShortText};
 ghost use Rattle.connection_view.specs.Views.{Client};
-ghost use Rattle.remote_loads.specs.Causes.{IsRemoteRefusal};
-ghost use Rattle.remote_loads.specs.Keeping.{KeepsWay};
+ghost use Rattle.remote_loads.specs.Keeping.{GoesItsWay};
 ghost use Rattle.remote_loads.specs.Leaving.{UndoLeaves, VoteLeaves};
 ghost use Rattle.remote_loads.specs.Making.{IsAskedFor, IsUndoMade, IsVoteMade, IsVoteSpelled};
 ghost use Rattle.remote_loads.specs.Standing.{Stands};
@@ -62,12 +61,8 @@ impl<'c, W: Carrier> Remote<'c, W> {
         requires user { IsShortText user.now }
         requires description { IsShortText description.now }
         requires stores { AreVotable stores }
-        ensures refused { IfErr result (IsRemoteRefusal (W.faults self.old.carrier)
-            (W.faults self.new.carrier) (W.closed self.new.carrier) self.new.client.now.ended) }
-        ensures never_falls { (W.faults self.old.carrier ≤ W.faults self.new.carrier)
-            × (self.old.client.now.held.standing.known ≤ self.new.client.now.held.standing.known) }
-        ensures keeps { KeepsWay W.session W.place W.later self.old.carrier self.new.carrier
-            self.old.client.ghost_name self.new.client.ghost_name }
+        ensures way { GoesItsWay W.faults W.closed W.session W.place W.later self.old.carrier
+            self.new.carrier self.old.client self.new.client result }
         ensures told { W.told → IsVoteMade (W.steps (W.session self.old.carrier))
             (W.end self.old.carrier) (W.desk self.old.carrier) self.old.client.now user.now
             description.now stores checks
@@ -96,12 +91,8 @@ impl<'c, W: Carrier> Remote<'c, W> {
         requires user { IsShortText user.now }
         requires description { IsShortText description.now }
         requires stores { AreVotable stores }
-        ensures refused { IfErr result (IsRemoteRefusal (W.faults self.old.carrier)
-            (W.faults self.new.carrier) (W.closed self.new.carrier) self.new.client.now.ended) }
-        ensures never_falls { (W.faults self.old.carrier ≤ W.faults self.new.carrier)
-            × (self.old.client.now.held.standing.known ≤ self.new.client.now.held.standing.known) }
-        ensures keeps { KeepsWay W.session W.place W.later self.old.carrier self.new.carrier
-            self.old.client.ghost_name self.new.client.ghost_name }
+        ensures way { GoesItsWay W.faults W.closed W.session W.place W.later self.old.carrier
+            self.new.carrier self.old.client self.new.client result }
         ensures exact { W.told → (c : Client) → Stands (W.machine (W.end self.old.carrier))
             (W.session self.old.carrier) (W.desk self.old.carrier) self.old.client.now c
             → VoteLeaves (W.steps (W.session self.old.carrier)) W.machine
@@ -119,12 +110,8 @@ impl<'c, W: Carrier> Remote<'c, W> {
     fn undo_made(&mut self, user: &Text8, description: &Text8, tids: &[Tid]) -> Result<(), Refusal>
         requires user { IsShortText user.now }
         requires description { IsShortText description.now }
-        ensures refused { IfErr result (IsRemoteRefusal (W.faults self.old.carrier)
-            (W.faults self.new.carrier) (W.closed self.new.carrier) self.new.client.now.ended) }
-        ensures never_falls { (W.faults self.old.carrier ≤ W.faults self.new.carrier)
-            × (self.old.client.now.held.standing.known ≤ self.new.client.now.held.standing.known) }
-        ensures keeps { KeepsWay W.session W.place W.later self.old.carrier self.new.carrier
-            self.old.client.ghost_name self.new.client.ghost_name }
+        ensures way { GoesItsWay W.faults W.closed W.session W.place W.later self.old.carrier
+            self.new.carrier self.old.client self.new.client result }
         ensures told { W.told → IsUndoMade (W.steps (W.session self.old.carrier))
             (W.end self.old.carrier) (W.desk self.old.carrier) self.old.client.now user.now
             description.now tids.now
@@ -151,12 +138,8 @@ impl<'c, W: Carrier> Remote<'c, W> {
     ) -> Result<(), Refusal>
         requires user { IsShortText user.now }
         requires description { IsShortText description.now }
-        ensures refused { IfErr result (IsRemoteRefusal (W.faults self.old.carrier)
-            (W.faults self.new.carrier) (W.closed self.new.carrier) self.new.client.now.ended) }
-        ensures never_falls { (W.faults self.old.carrier ≤ W.faults self.new.carrier)
-            × (self.old.client.now.held.standing.known ≤ self.new.client.now.held.standing.known) }
-        ensures keeps { KeepsWay W.session W.place W.later self.old.carrier self.new.carrier
-            self.old.client.ghost_name self.new.client.ghost_name }
+        ensures way { GoesItsWay W.faults W.closed W.session W.place W.later self.old.carrier
+            self.new.carrier self.old.client self.new.client result }
         ensures exact { W.told → (c : Client) → Stands (W.machine (W.end self.old.carrier))
             (W.session self.old.carrier) (W.desk self.old.carrier) self.old.client.now c
             → UndoLeaves (W.steps (W.session self.old.carrier)) W.machine
