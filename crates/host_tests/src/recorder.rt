@@ -8,6 +8,7 @@ use std::rt::Files;
 use std::test::Fail;
 use std::{fs, io};
 
+/// A call of the host on a file or a folder.
 #[derive(Clone, Copy, PartialEq, Eq)]
 pub enum HostCall {
     Seek,
@@ -26,6 +27,7 @@ pub enum HostCall {
     Rename,
 }
 
+/// The calls that were made since it was last asked for them, and whether syncs are to fail.
 #[derive(Drop)]
 pub struct Log {
     calls: RefCell<Vec<HostCall>>,
@@ -33,6 +35,7 @@ pub struct Log {
 }
 
 impl Log {
+    /// No calls, and syncs that don't fail.
     pub fn new(alloc: Global) -> Log {
         Log {
             calls: RefCell::new(Vec::new(alloc)),
@@ -40,6 +43,7 @@ impl Log {
         }
     }
 
+    /// Has syncs fail from here on, or not.
     pub fn fail_syncs(&self, fail: bool) {
         self.syncs_fail.set(fail);
     }
@@ -60,6 +64,7 @@ impl Log {
     }
 }
 
+/// A file or a folder of the host whose calls are logged.
 #[derive(Drop)]
 pub struct Recorded<'a> {
     file: File,
@@ -156,6 +161,7 @@ impl<'a> HostFile for Recorded<'a> {
     }
 }
 
+/// The host's files, whose calls are logged.
 #[derive(Drop)]
 pub struct Recorder<'a> {
     pub runtime: &'a HostRuntime,

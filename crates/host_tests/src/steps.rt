@@ -5,6 +5,7 @@ use std::rt::Files;
 use std::test::Fail;
 use zb_volume::{Area, Volume};
 
+/// A call of a volume.
 #[derive(Clone, Copy)]
 pub enum Step<'a> {
     Length(Area),

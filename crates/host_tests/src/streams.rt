@@ -43,6 +43,7 @@ pub struct Interrupted {
 }
 
 impl Interrupted {
+    /// These bytes, and no interrupt yet.
     pub fn new(bytes: Vec<u8>) -> Interrupted {
         Interrupted {
             bytes,
